@@ -1,0 +1,4 @@
+pub mod Numbers
+pub mod Soundness
+pub mod Steps
+pub mod Tables

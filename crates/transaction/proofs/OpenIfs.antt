@@ -2,7 +2,7 @@
 use mathlib.Core.Path.{_≡_, refl, sym, ap, _∙_}
 use mathlib.Core.Bool.{Bool, true, false, not}
 use mathlib.Core.List.{List, [], _∷_, _++_, reverse}
-use Prim.Native.Nat.{ℕ, _+_, _-_, _<_, _≤_}
+use Prim.Native.Nat.{ℕ, suc, _+_, _-_, _<_, _≤_}
 use native.Mathlib.Omega.{arith}
 use lib.Dec.{ltb}
 use lib.ListN.{length, take, set, getD}
@@ -29,12 +29,19 @@ module _ {A : Type 0} (l : List A) (d : ℕ) (z : A) (some : 0 < d) (room : d �
   pub innermost : reverse (take d l) ≡ getD l (d - 1) z ∷ reverse (take (d - 1) l)
   innermost = let e : d - 1 + 1 ≡ d = omega arith in ap (λ (n : ℕ). reverse (take n l)) (sym e) ∙ one-more l (d - 1) z (omega arith)
 
-module _ {C : Type 0} (l : List (Frame C)) (d : ℕ) where
-  pub may-open : d ≤ length l → d < 3 → true ≡ ltb (length (reverse (take d l))) 3
-  may-open h few = sym (ap (λ (n : ℕ). ltb n 3) (how-many l d h) ∙ lt-ltb d 3 few)
+pub elses-long : {C : Type 0} (fs : List (Frame C)) → length (elses fs) ≡ length fs
+elses-long [] = refl
+elses-long (f ∷ fs) = ap suc (elses-long fs)
 
-  pub too-deep : d ≤ length l → 3 ≤ d → false ≡ ltb (length (reverse (take d l))) 3
-  too-deep h deep = sym (ap (λ (n : ℕ). ltb n 3) (how-many l d h) ∙ le-ltb d 3 deep)
+module _ {C : Type 0} (l : List (Frame C)) (d : ℕ) where
+  deep : d ≤ length l → length (elses (reverse (take d l))) ≡ d
+  deep h = elses-long (reverse (take d l)) ∙ how-many l d h
+
+  pub may-open : d ≤ length l → d < 3 → true ≡ ltb (length (elses (reverse (take d l)))) 3
+  may-open h few = sym (ap (λ (n : ℕ). ltb n 3) (deep h) ∙ lt-ltb d 3 few)
+
+  pub too-deep : d ≤ length l → 3 ≤ d → false ≡ ltb (length (elses (reverse (take d l)))) 3
+  too-deep h many = sym (ap (λ (n : ℕ). ltb n 3) (deep h) ∙ le-ltb d 3 many)
 
   pub opens : (c : C) → d < length l → reverse (take (d + 1) (set l d (record { on = c; second = false }))) ≡ begun c (reverse (take d l))
   opens c h = pushed l d (record { on = c; second = false }) h

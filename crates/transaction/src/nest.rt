@@ -27,7 +27,7 @@ impl<C: Copy> Nest<C> {
 
     // Opens an if; false, and nothing changes, at the fourth depth.
     pub fn open_if(&mut self, on: C) -> bool
-        ensures answer { λ r. ⌜ r ≡ ltb (length (framesOf (now (self .entry)))) 3 ⌝ }
+        ensures answer { λ r. ⌜ r ≡ ltb (length (elses (framesOf (now (self .entry))))) 3 ⌝ }
         ensures frames { λ r. ⌜ framesOf (now (self .exit)) ≡ cond r (begun on (framesOf (now (self .entry)))) (framesOf (now (self .entry))) ⌝ }
     {
         let d = self.depth;
