@@ -201,7 +201,12 @@ impl<'a> Reader<'a> {
     }
 
     // The next `count` statements, at the front of a table.
-    fn statements(&mut self, fields: u8, states: u8, count: u8) -> Result<[Statement; 48], ReadFault>
+    fn statements(
+        &mut self,
+        fields: u8,
+        states: u8,
+        count: u8,
+    ) -> Result<[Statement; 48], ReadFault>
         requires { ⌜ count ≤ 48 ⌝ }
         ensures bytes { λ _. ⌜ now (now (self .exit) .bytes) ≡ now (now (self .entry) .bytes) ⌝ }
         ensures long { λ r. ⌜ made r (λ table. length table ≡ 48) ⌝ }

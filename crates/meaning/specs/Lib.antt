@@ -1,0 +1,3 @@
+pub mod Serial
+pub mod Structure
+pub mod Alone

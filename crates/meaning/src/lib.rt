@@ -1,0 +1,9 @@
+// The serial meaning of a transaction, and running one alone.
+mod fault;
+mod theorem;
+
+pub use fault::AloneFault;
+pub use fault::AloneFromLength;
+pub use fault::AloneFromRead;
+pub use fault::LengthFault;
+pub use theorem::branches_run_as_written;
