@@ -1,0 +1,5 @@
+pub mod Additions
+pub mod Guards
+pub mod Loops
+pub mod Naming
+pub mod States

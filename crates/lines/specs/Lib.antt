@@ -1,0 +1,3 @@
+pub mod Build
+pub mod Named
+pub mod View
