@@ -1,5 +1,14 @@
 pub mod Additions
+pub mod Finish
 pub mod Guards
+pub mod InOrder
 pub mod Loops
+pub mod Meant
 pub mod Naming
+pub mod Order
+pub mod Places
+pub mod Simulation
+pub mod Sources
 pub mod States
+pub mod Table
+pub mod Working

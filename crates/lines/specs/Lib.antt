@@ -1,3 +1,7 @@
 pub mod Build
+pub mod Exact
+pub mod Layout
+pub mod Meaning
 pub mod Named
 pub mod View
+pub mod Work

@@ -26,10 +26,14 @@ names s (If c) = isState s c
 names s Else = false
 names s End = false
 
--- whether one of these does
+-- whether one of these is such
+abbrev pub anyOf : {A : Type 0} → (A → Bool) → List A → Bool
+anyOf p [] = false
+anyOf p (x ∷ xs) = p x || anyOf p xs
+
+-- whether one of these names a state
 abbrev pub someNames : ℕ → List Statement → Bool
-someNames s [] = false
-someNames s (x ∷ xs) = names s x || someNames s xs
+someNames s xs = anyOf (names s) xs
 
 -- n numbers, from i on
 abbrev pub upFrom : ℕ → ℕ → List ℕ

@@ -8,14 +8,18 @@ ghost use Rattle.transaction.specs.Frames.{framesOf, elses};
 ghost use Rattle.transaction.specs.Programs.{statementsOf};
 ghost use Rattle.transaction.specs.Statements.{kindOf};
 ghost use Rattle.transaction.specs.WellFormed.{fits};
-ghost use Rattle.lines.specs.Build.{sourceOf, last as lastOf, chooseFor, assigned, adds, addsAll, readLines, firsts, writeLines, numbered};
+ghost use Rattle.lines.specs.Build.{sourceOf, last as lastOf, chooseFor, assigned, adds, addsAll, readLines, firsts, start, writeLines, numbered};
 ghost use Rattle.lines.specs.declared.line.Line.the-variants.{Read};
 ghost use Rattle.lines.specs.declared.line.Source.the-variants.{Field as Incoming, Line as Made};
 ghost use Rattle.lines.specs.Named.{upFrom};
+ghost use Rattle.lines.specs.Exact.{Exactly, In-order};
+ghost use Rattle.lines.specs.Meaning.{Keeps-meaning, Each-makes};
 ghost use Rattle.lines.specs.View.{draftOf, Pushed, Guarded};
 use crate::builder::Builder;
 use crate::line::Line;
 use crate::line::Source;
+use crate::lines::Lines;
+use crate::named::named_states;
 use transaction::Frame;
 use transaction::Nest;
 use transaction::Operand;
@@ -195,6 +199,17 @@ impl Builder {
         }
     }
 
+    // All but the write lines.
+    fn body(t: &Transaction, named: &[bool; 8]) -> Builder
+        ensures made { λ r. ⌜ draftOf r ≡ addsAll (statementsOf (now (t .entry))) (start (now (named .entry))) ⌝ }
+        ensures count { λ r. ⌜ r .count ≤ 200 ⌝ }
+    {
+        let mut b = Builder::new();
+        b.read_states(named);
+        b.add_all(t);
+        b
+    }
+
     // A write line for each named state.
     fn write_states(&mut self, named: &[bool; 8])
         requires { ⌜ now self .count ≤ 200 ⌝ }
@@ -225,4 +240,26 @@ fn number_states(named: &[bool; 8], first: usize) -> [usize; 8]
         }
     }
     numbers
+}
+
+// A transaction's lines: without branches, and with the same meaning.
+pub fn lines_of(t: &Transaction) -> Lines
+    ensures exact { λ r. ⌜ Exactly (statementsOf (now (t .entry))) r ⌝ }
+    ensures order { λ r. ⌜ In-order r ⌝ }
+    ensures meaning { λ r. ⌜ Keeps-meaning (now (t .entry)) r ⌝ }
+    ensures makes { λ r. ⌜ Each-makes r ⌝ }
+{
+    let named = named_states(t);
+    let mut b = Builder::body(t, &named);
+    let first_write = b.count;
+    b.write_states(&named);
+    Lines {
+        lines: b.lines,
+        count: b.count,
+        named,
+        finals: b.fields,
+        updates: b.states,
+        reads: number_states(&named, 0),
+        writes: number_states(&named, first_write),
+    }
 }

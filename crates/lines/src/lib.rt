@@ -2,7 +2,11 @@
 mod build;
 mod builder;
 mod line;
+mod lines;
 mod named;
+mod work;
 
+pub use build::lines_of;
 pub use line::Line;
 pub use line::Source;
+pub use lines::Lines;
