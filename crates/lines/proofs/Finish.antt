@@ -47,11 +47,11 @@ someone s n [] h e = absurd (omega arith)
 someone s zero (x ∷ xs) h e = or-left (names s x) _ e
 someone s (suc n) (x ∷ xs) h e = or-right (names s x) (someNames s xs) (someone s n xs (omega arith) e)
 
-pub marked : (xs : List Statement) (s : ℕ) → getD (namedOf xs) s false ≡ true → Naming s xs
-marked xs s e = go (cases-lt s 8)
+pub marked-named : (xs : List Statement) (s : ℕ) → getD (namedOf xs) s false ≡ true → someNames s xs ≡ true
+marked-named xs s e = go (cases-lt s 8)
   where
-    go : (s < 8) ⊎ (8 ≤ s) → Naming s xs
-    go (inl h) = naming s xs (sym (mark xs s h) ∙ e)
+    go : (s < 8) ⊎ (8 ≤ s) → someNames s xs ≡ true
+    go (inl h) = sym (mark xs s h) ∙ e
     go (inr h) = absurd (both-ways _ (getD-past (namedOf xs) s false (omega (arith, named-long xs))) e)
 
 module _ (xs : List Statement) (N : List Bool) (named : N ≡ namedOf xs) (b b′ : Builder) (made : draftOf b ≡ addsAll xs (start N)) (lines : take (b′ .count) (b′ .lines) ≡ take (b .count) (b .lines) ++ writeLines N (b .states)) (fields : b′ .fields ≡ b .fields) (states : b′ .states ≡ b .states) where
@@ -86,7 +86,7 @@ module _ (xs : List Statement) (N : List Bool) (named : N ≡ namedOf xs) (b b�
         count = c ∙ count;
         few = r .few;
         named = n ∙ named;
-        marked = λ s e. marked xs s (ap (λ (l : List Bool). getD l s false) (sym (n ∙ named)) ∙ e);
+        marked = λ s e. naming s xs (marked-named xs s (ap (λ (l : List Bool). getD l s false) (sym (n ∙ named)) ∙ e));
         naming = λ s k h g e. ap (λ (l : List Bool). getD l s false) (n ∙ named) ∙ mark xs s h ∙ someone s k xs g e;
         finals = f ∙ finals;
         updates = u ∙ updates;

@@ -14,5 +14,5 @@ use Rattle.lines.specs.Build.{last, chooseFor, guarded}
 pub guarded-turn : (n n₀ : Nest Source) (j : ℕ) (old : Source) (ls ls′ : List Line) (z : Frame Source) (new : Source) (l : Line) → n ≡ n₀ → 0 < j → j ≤ length (n₀ .frames) → new ≡ last ls → l ≡ chooseFor (getD (n .frames) (j - 1) z) new old → ls′ ≡ ls ++ (l ∷ []) → guarded (reverse (take (j - 1) (n₀ .frames))) old ls′ ≡ guarded (reverse (take j (n₀ .frames))) old ls
 guarded-turn n n₀ j old ls ls′ z new l same some room e f q =
     ap (guarded (reverse (take (j - 1) (n₀ .frames))) old)
-      (q ∙ ap (λ (x : Line). ls ++ (x ∷ [])) (f ∙ ap (λ (s : Source). chooseFor (getD (n .frames) (j - 1) z) s old) e ∙ ap (λ (m : Nest Source). chooseFor (getD (m .frames) (j - 1) z) (last ls) old) same))
+    (q ∙ ap (λ (x : Line). ls ++ (x ∷ [])) (f ∙ ap (λ (s : Source). chooseFor (getD (n .frames) (j - 1) z) s old) e ∙ ap (λ (m : Nest Source). chooseFor (getD (m .frames) (j - 1) z) (last ls) old) same))
     ∙ sym (ap (λ (fs : List (Frame Source)). guarded fs old ls) (innermost (n₀ .frames) j z some room))

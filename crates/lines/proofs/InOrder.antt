@@ -63,7 +63,7 @@ module _ (r : Lines) where
     write =
         sym (front-at (getD (r .writes) s 0) last)
         ∙ ap₂ (λ (l : List Line) (n : ℕ). getD l n (Read 0)) (sym (take-append-drop (firstWrite r) front) ∙ ap (λ (l : List Line). before ++ l) (r .«writes_last»))
-            (write-number ∙ ap (λ (n : ℕ). getD (numbered n (r .named)) s 0) (sym before-long))
+        (write-number ∙ ap (λ (n : ℕ). getD (numbered n (r .named)) s 0) (sym before-long))
         ∙ number-at (writeLine (r .updates)) (Read 0) before 0 (r .named) s named
         ∙ ap (writeLine (r .updates)) (zero-add s)
 

@@ -24,11 +24,12 @@ use Rattle.lines.specs.declared.lines.Lines.{Lines}
 use Rattle.lines.specs.Named.{someNames, namedOf}
 use Rattle.lines.specs.Build.{Draft, sourceOf, start, bodyOf, linesOf, finalsOf, updatesOf, writeLines, numbered}
 use Rattle.lines.specs.Work.{valueOf, makes, worked}
-use Rattle.lines.specs.Exact.{Exactly, In-order}
+use Rattle.lines.specs.Exact.{Exactly, Named-there, In-order}
 use Rattle.lines.specs.Meaning.{wordsLeft, workedOut, linesLeave, Means, Keeps-meaning}
 use Rattle.lines.proofs.Working.{is, stays-all, satisfied}
-use Rattle.lines.proofs.Finish.{mark, named-long}
+use Rattle.lines.proofs.Finish.{mark, marked-named, named-long}
 use Rattle.lines.proofs.InOrder.{in-order}
+use Rattle.lines.proofs.Naming.{named-there}
 use Rattle.lines.proofs.Simulation.{Sim, run-sim, start-sim}
 
 pub numbered-long : (n : ℕ) (ms : List Bool) → length (numbered n ms) ≡ length ms
@@ -66,9 +67,11 @@ module _ (plus minus : ℕ → ℕ → ℕ) (v : Values) (xs : List Statement) (
     fields : (i : ℕ) → i < length (v .fields) → valueOf (v .fields) vs (getD (r .finals) i (Fixed 0)) ≡ getD (alone plus minus xs v .fields) i 0
     fields i h = ap (λ (l : List Source). valueOf (v .fields) vs (getD l i (Fixed 0))) (e .finals) ∙ value (Field i) ∙ sim .agrees (Field i) h
 
-    words : (s : ℕ) → s < length (v .words) → getD (r .named) s false ≡ true → getD vs (getD (r .writes) s 0) 0 ≡ getD (alone plus minus xs v .words) s 0
-    words s h n =
+    words : (s : ℕ) → getD (r .named) s false ≡ true → getD vs (getD (r .writes) s 0) 0 ≡ getD (alone plus minus xs v .words) s 0
+    words s n =
         let k : ℕ = getD (r .writes) s 0 in
+        let n′ : getD (namedOf xs) s false ≡ true = ap (λ (l : List Bool). getD l s false) (sym (e .named)) ∙ n in
+        let h : s < length (v .words) = named-there (length (v .fields)) (length (v .words)) s xs there (marked-named xs s n′) in
         let o : In-order r = in-order r in
         let inside : k < r .count = o .last s n in
         let long : length (take (r .count) (r .lines)) ≡ r .count = length-take-le (r .count) (r .lines) (omega (arith, r .few, r .«lines_long»)) in
@@ -76,7 +79,7 @@ module _ (plus minus : ℕ → ℕ → ℕ) (v : Values) (xs : List Statement) (
         ∙ ap (makes plus minus v vs) (getD-take (r .count) (r .lines) k (Read 0) inside ∙ o .write s n)
         ∙ ap (λ (l : List Source). valueOf (v .fields) vs (getD l s (Fixed 0))) (e .updates)
         ∙ value (State s)
-        ∙ sim .agrees (State s) (h, ap (λ (l : List Bool). getD l s false) (sym (e .named)) ∙ n)
+        ∙ sim .agrees (State s) (h, n′)
 
     unnamed : (s : ℕ) → getD (r .named) s false ≡ false → getD (alone plus minus xs v .words) s 0 ≡ getD (v .words) s 0
     unnamed s n = sim .kept s (ap (λ (l : List Bool). getD l s false) (sym (e .named)) ∙ n)
@@ -106,14 +109,14 @@ module _ (plus minus : ℕ → ℕ → ℕ) (v : Values) (xs : List Statement) (
     left-is s h = left-at vs (r .named) (r .writes) (v .words) s (omega (arith, r .«named_long»)) writes-long h ∙ go (cases-bool (getD (r .named) s false))
       where
         go : (getD (r .named) s false ≡ true) ⊎ (getD (r .named) s false ≡ false) → cond (getD (r .named) s false) (getD vs (getD (r .writes) s 0) 0) (getD (v .words) s 0) ≡ getD (alone plus minus xs v .words) s 0
-        go (inl n) = cond-true (getD (r .named) s false) _ _ n ∙ words s h n
+        go (inl n) = cond-true (getD (r .named) s false) _ _ n ∙ words s n
         go (inr n) = cond-false (getD (r .named) s false) _ _ n ∙ sym (unnamed s n)
 
     pub means : Means plus minus r v xs
     means =
         record {
           same =
-            ap₂ values
+              ap₂ values
               (ext-getD 0 ends (alone plus minus xs v .fields) (ends-long ∙ sym (sim .fields-long)) (λ i h. ends-at i (omega (arith, ends-long))))
               (ext-getD 0 left (alone plus minus xs v .words) (left-long vs (r .named) (r .writes) (v .words) ∙ sym (sim .words-long)) (λ s h. left-is s (omega (arith, left-long vs (r .named) (r .writes) (v .words)))));
           fields = fields;
@@ -125,3 +128,6 @@ pub keeps-meaning : (t : Transaction) (r : Lines) → Exactly (statementsOf t) r
 keeps-meaning t r e plus minus v f s =
     let there : within (length (v .fields)) (length (v .words)) (statementsOf t) ≡ true = ap₂ (λ (a b : ℕ). within a b (statementsOf t)) f s ∙ t .«in_place» in
     means plus minus v (statementsOf t) (omega (arith, t .«few_fields»)) (omega (arith, t .«few_states»)) there r e
+
+pub states-there : (t : Transaction) (r : Lines) → Exactly (statementsOf t) r → Named-there t r
+states-there t r e s n = named-there (t .fields) (t .states) s (statementsOf t) (t .«in_place») (marked-named (statementsOf t) s (ap (λ (l : List Bool). getD l s false) (sym (e .named)) ∙ n))

@@ -81,7 +81,7 @@ module _ (r : List Line) where
       let l : Line = chooseFor f (last ls) old in
       let up : length ls ≤ length (ls ++ (l ∷ [])) = omega (arith, length-push ls l) in
       good-guarded frames old (ls ++ (l ∷ [])) (omega arith) (conditions-up _ _ frames up (c .1)) (under-up _ _ old up u)
-        (good-push ls l g (chooses-under (length ls) f (last ls) old (c .0) (omega arith) u) (chooses-plain f (last ls) old))
+      (good-push ls l g (chooses-under (length ls) f (last ls) old (c .0) (omega arith) u) (chooses-plain f (last ls) old))
 
   -- every latest value and condition is a line that is there
   pub record Low (d : Draft) : Type 0 where

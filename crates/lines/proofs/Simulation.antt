@@ -181,20 +181,20 @@ module _ (plus minus : ℕ → ℕ → ℕ) (v : Values) where
         let y : ℕ = cond (live (h .nest)) x o in
         let same : (a : Source) → Under (length (d .lines)) a → val ls a ≡ val (d .lines) a = λ a c. guarded-stays (d .nest) old (d .lines ++ (l ∷ [])) a (under-up _ _ a up c) ∙ stays plus minus v (d .lines) l a c in
         let made : val ls (last ls) ≡ y =
-              guarded-is (d .nest) (h .nest) old (d .lines ++ (l ∷ [])) x o (omega (arith, length-push (d .lines) l)) (conditions-up _ _ (d .nest) up (m .low .nest)) (under-up _ _ old up k)
-                (frames-stay (d .lines) (d .lines ++ (l ∷ [])) (stays plus minus v (d .lines) l) (d .nest) (h .nest) (m .low .nest) (m .frames)) (stays plus minus v (d .lines) l old k ∙ m .agrees (targetOperand t) u) (last-is (d .lines) l ∙ e) in
+        guarded-is (d .nest) (h .nest) old (d .lines ++ (l ∷ [])) x o (omega (arith, length-push (d .lines) l)) (conditions-up _ _ (d .nest) up (m .low .nest)) (under-up _ _ old up k)
+        (frames-stay (d .lines) (d .lines ++ (l ∷ [])) (stays plus minus v (d .lines) l) (d .nest) (h .nest) (m .low .nest) (m .frames)) (stays plus minus v (d .lines) l old k ∙ m .agrees (targetOperand t) u) (last-is (d .lines) l ∙ e) in
         let s : Stored t (last ls) y ls (d .latest) (h .values) = stores t (last ls) y ls d h m u (λ a c. same (sourceOf (d .latest) a) (m .low .latest a) ∙ m .agrees a c) made in
         subst (λ (z : Values). Sim (assigned t l d) (context z (h .nest))) (sym (assign-is t x (h .nest) (h .values)))
-          (record {
-            low = assigned-low (readLines N) t l d (m .low) w p;
-            agrees = s .agrees;
-            kept = s .kept;
-            frames = frames-stay (d .lines) ls same (d .nest) (h .nest) (m .low .nest) (m .frames);
-            fields-long = s .fields-long;
-            words-long = s .words-long;
-            finals-long = s .finals-long;
-            updates-long = s .updates-long;
-          })
+        (record {
+          low = assigned-low (readLines N) t l d (m .low) w p;
+          agrees = s .agrees;
+          kept = s .kept;
+          frames = frames-stay (d .lines) ls same (d .nest) (h .nest) (m .low .nest) (m .frames);
+          fields-long = s .fields-long;
+          words-long = s .words-long;
+          finals-long = s .finals-long;
+          updates-long = s .updates-long;
+        })
 
     nesting-sim : (d : Draft) (h : Context) (fs : List (Frame Source)) (bs : List (Frame Bool)) → Sim d h → Low (readLines N) (nesting fs d) → Frames (d .lines) fs bs → Sim (nesting fs d) (context (h .values) bs)
     nesting-sim d h fs bs m w f =
@@ -265,7 +265,7 @@ module _ (plus minus : ℕ → ℕ → ℕ) (v : Values) where
         let w : Uses c = uses c (q .0) (first-of (λ (k : ℕ). isState k c) (λ (k : ℕ). isState k a || isState k b) later) in
         let z = both a b (q .1) (second-of (λ (k : ℕ). isState k c) (λ (k : ℕ). isState k a || isState k b) later) in
         assign-sim t (L-Choose (sourceOf (d .latest) c) (sourceOf (d .latest) a) (sourceOf (d .latest) b)) _ d h m (m .low .latest c, (m .low .latest a, (m .low .latest b, tt))) refl
-          (ap (λ (x : ℕ). chosen x (val (d .lines) (sourceOf (d .latest) a)) (val (d .lines) (sourceOf (d .latest) b))) (m .agrees c w) ∙ ap₂ (chosen (operandIn (h .values) c)) (m .agrees a (z .0)) (m .agrees b (z .1))) u
+        (ap (λ (x : ℕ). chosen x (val (d .lines) (sourceOf (d .latest) a)) (val (d .lines) (sourceOf (d .latest) b))) (m .agrees c w) ∙ ap₂ (chosen (operandIn (h .values) c)) (m .agrees a (z .0)) (m .agrees b (z .1))) u
     step-sim (If c) d h m e n = nesting-sim d h _ _ m (adds-low (readLines N) (If c) d (m .low)) (ap truth (m .agrees c (uses c e n)), refl, m .frames)
     step-sim Else d h m e n = nesting-sim d h _ _ m (adds-low (readLines N) Else d (m .low)) (turned-frames (d .lines) (d .nest) (h .nest) (m .frames))
     step-sim End d h m e n = nesting-sim d h _ _ m (adds-low (readLines N) End d (m .low)) (outer-frames (d .lines) (d .nest) (h .nest) (m .frames))

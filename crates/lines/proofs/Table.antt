@@ -46,7 +46,7 @@ ordered-more : (ls ms : List Line) (w : ℕ) → w ≤ length ls → Ordered ls 
 ordered-more ls [] w h o u = subst Ordered (sym (append-nil ls)) o
 ordered-more ls (m ∷ ms) w h o u =
     subst Ordered (append-assoc ls (m ∷ []) ms)
-      (ordered-more (ls ++ (m ∷ [])) ms w (omega (arith, length-push ls m)) (ordered-push ls m o (all-up w (length ls) (sourcesOf m) h (u .0))) (u .1))
+    (ordered-more (ls ++ (m ∷ [])) ms w (omega (arith, length-push ls m)) (ordered-push ls m o (all-up w (length ls) (sourcesOf m) h (u .0))) (u .1))
 
 module _ (xs : List Statement) where
   abbrev body : Draft
@@ -103,8 +103,8 @@ module _ (xs : List Statement) where
     all-plain n h k =
         let inside : n < length (body .lines) = omega (arith, first-write) in
         let e : getD table n (Read 0) ≡ getD (body-low .good .rest) (n - amount (namedOf xs)) (Read 0) =
-              sym (getD-take count table n (Read 0) (omega (arith, lines-long))) ∙ ap (λ (l : List Line). getD l n (Read 0)) holds ∙ getD-append-left (body .lines) writes (Read 0) n inside
-              ∙ ap (λ (l : List Line). getD l n (Read 0)) reads-and-rest ∙ getD-append-right (readLines (namedOf xs)) (body-low .good .rest) (amount (namedOf xs)) n (Read 0) (reads-long (namedOf xs)) h in
+        sym (getD-take count table n (Read 0) (omega (arith, lines-long))) ∙ ap (λ (l : List Line). getD l n (Read 0)) holds ∙ getD-append-left (body .lines) writes (Read 0) n inside
+        ∙ ap (λ (l : List Line). getD l n (Read 0)) reads-and-rest ∙ getD-append-right (readLines (namedOf xs)) (body-low .good .rest) (amount (namedOf xs)) n (Read 0) (reads-long (namedOf xs)) h in
         ap isPlain e ∙ all-getD (λ (l : Line). isPlain l ≡ true) (body-low .good .rest) (n - amount (namedOf xs)) (Read 0) (omega (arith, body-long)) (body-low .good .plain)
 
     table-ordered : Ordered (take count table)

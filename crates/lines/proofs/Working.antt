@@ -85,7 +85,7 @@ module _ (plus minus : ℕ → ℕ → ℕ) (v : Values) where
   pub stays : (ls : List Line) (l : Line) (a : Source) → Under (length ls) a → is (ls ++ (l ∷ [])) a ≡ is ls a
   stays ls l a u =
       value-same (length ls) (worked plus minus v ls) (worked plus minus v (ls ++ (l ∷ [])))
-        (λ m h. ap (λ (vs : List ℕ). getD vs m 0) (worked-push ls l []) ∙ getD-append-left (worked plus minus v ls) _ 0 m (omega (arith, worked-long ls))) a u
+      (λ m h. ap (λ (vs : List ℕ). getD vs m 0) (worked-push ls l []) ∙ getD-append-left (worked plus minus v ls) _ 0 m (omega (arith, worked-long ls))) a u
 
   pub stays-all : (ls ms : List Line) (a : Source) → Under (length ls) a → is (ls ++ ms) a ≡ is ls a
   stays-all ls [] a u = ap (λ (l : List Line). is l a) (append-nil ls)

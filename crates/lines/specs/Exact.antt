@@ -6,6 +6,7 @@ use Prim.Native.Nat.{ℕ, _+_, _-_, _<_, _≤_}
 use lib.ListN.{getD, length, take}
 use Rattle.transaction.specs.declared.statement.Statement.{Statement}
 use Rattle.transaction.specs.declared.statement.Statement.the-variants.{End}
+use Rattle.transaction.specs.declared.transaction.Transaction.{Transaction}
 use Rattle.lines.specs.declared.line.Source.the-variants.{Constant as Fixed}
 use Rattle.lines.specs.declared.line.Line.the-variants.{Read, Write}
 use Rattle.lines.specs.declared.lines.Lines.{Lines}
@@ -26,6 +27,10 @@ pub record Exactly (xs : List Statement) (r : Lines) : Type 0 where
   pub updates : r .updates ≡ updatesOf xs
   pub reads : r .reads ≡ numbered 0 (namedOf xs)
   pub writes : r .writes ≡ numbered (length (bodyOf xs .lines)) (namedOf xs)
+
+-- a named state is one of the transaction's
+abbrev pub Named-there : Transaction → Lines → Type 0
+Named-there t r = (s : ℕ) → getD (r .named) s false ≡ true → s < t .states
 
 -- the number of the first write line
 abbrev pub firstWrite : Lines → ℕ

@@ -1,5 +1,6 @@
 pub mod Build
 pub mod Exact
+pub mod Examples
 pub mod Layout
 pub mod Meaning
 pub mod Named

@@ -34,7 +34,7 @@ module _ (plus minus : ℕ → ℕ → ℕ) (r : Lines) (v : Values) where
     -- so a field's final value is what the run leaves in it
     pub fields : (i : ℕ) → i < length (v .fields) → valueOf (v .fields) workedOut (getD (r .finals) i (Fixed 0)) ≡ getD (alone plus minus xs v .fields) i 0
     -- what a named state's write line takes is the word that the run leaves
-    pub words : (s : ℕ) → s < length (v .words) → getD (r .named) s false ≡ true → getD workedOut (getD (r .writes) s 0) 0 ≡ getD (alone plus minus xs v .words) s 0
+    pub words : (s : ℕ) → getD (r .named) s false ≡ true → getD workedOut (getD (r .writes) s 0) 0 ≡ getD (alone plus minus xs v .words) s 0
     -- and a state that no statement names keeps its word
     pub unnamed : (s : ℕ) → getD (r .named) s false ≡ false → getD (alone plus minus xs v .words) s 0 ≡ getD (v .words) s 0
 

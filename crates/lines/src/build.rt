@@ -12,7 +12,7 @@ ghost use Rattle.lines.specs.Build.{sourceOf, last as lastOf, chooseFor, assig
 ghost use Rattle.lines.specs.declared.line.Line.the-variants.{Read};
 ghost use Rattle.lines.specs.declared.line.Source.the-variants.{Field as Incoming, Line as Made};
 ghost use Rattle.lines.specs.Named.{upFrom};
-ghost use Rattle.lines.specs.Exact.{Exactly, In-order};
+ghost use Rattle.lines.specs.Exact.{Exactly, Named-there, In-order};
 ghost use Rattle.lines.specs.Meaning.{Keeps-meaning, Each-makes};
 ghost use Rattle.lines.specs.View.{draftOf, Pushed, Guarded};
 use crate::builder::Builder;
@@ -194,7 +194,11 @@ impl Builder {
         ensures count { λ _. ⌜ now (self .exit) .count ≤ 8 ⌝ }
     {
         for s in 0..8 {
-            let first = if named[s] { self.read_state(s as u8) } else { Source::Constant(0) };
+            let first = if named[s] {
+                self.read_state(s as u8)
+            } else {
+                Source::Constant(0)
+            };
             put(&mut self.states, s, first);
         }
     }
@@ -245,6 +249,7 @@ fn number_states(named: &[bool; 8], first: usize) -> [usize; 8]
 // A transaction's lines: without branches, and with the same meaning.
 pub fn lines_of(t: &Transaction) -> Lines
     ensures exact { λ r. ⌜ Exactly (statementsOf (now (t .entry))) r ⌝ }
+    ensures there { λ r. ⌜ Named-there (now (t .entry)) r ⌝ }
     ensures order { λ r. ⌜ In-order r ⌝ }
     ensures meaning { λ r. ⌜ Keeps-meaning (now (t .entry)) r ⌝ }
     ensures makes { λ r. ⌜ Each-makes r ⌝ }

@@ -8,7 +8,7 @@ use Rattle.transaction.specs.Programs.{statementsOf}
 use Rattle.lines.specs.Build.{numbered}
 use Rattle.lines.proofs.Finish.{named-long, laid-out, first-write, exactly}
 use Rattle.lines.proofs.InOrder.{in-order}
-use Rattle.lines.proofs.Meant.{keeps-meaning}
+use Rattle.lines.proofs.Meant.{keeps-meaning, states-there}
 use Rattle.lines.proofs.Working.{satisfied}
 use Rattle.lines.proofs.build.lines_of.Needs as need
 
@@ -21,10 +21,28 @@ ghost-result c =
     let named = c .named-states-named .ensures in
     let w = c .write-states .ensures in
     let l = laid-out xs N named b b′ (c .body-b .ensures .made) (w .lines) (w .fields) (w .states) in
-    let first = first-write xs N named b b′ (c .body-b .ensures .made) (w .lines) (w .fields) (w .states) in
-    (b′ .room, (b′ .«lines_long», (ap length named ∙ named-long xs, (b′ .«fields_long», (b′ .«states_long»,
-    (c .number-states .ensures, (c .number-states-2 .ensures ∙ ap (λ (n : ℕ). numbered n N) first,
-    (l .room, (l .reads-first, (l .writes-last, (l .plain, (l .ordered, (l .lines-below, (l .finals-below, (l .updates-below, tt)))))))))))))))
+    let first = first-write xs N named b b′ (c .body-b .ensures .made) (w .lines) (w .fields) (w .states) in (
+      b′ .room,
+      (
+        b′ .«lines_long»,
+        (
+          ap length named ∙ named-long xs,
+          (
+            b′ .«fields_long»,
+            (
+              b′ .«states_long»,
+              (
+                c .number-states .ensures,
+                (
+                  c .number-states-2 .ensures ∙ ap (λ (n : ℕ). numbered n N) first,
+                  (l .room, (l .reads-first, (l .writes-last, (l .plain, (l .ordered, (l .lines-below, (l .finals-below, (l .updates-below, tt)))))))),
+                ),
+              ),
+            ),
+          ),
+        ),
+      ),
+    )
 
 pub returns : need.returns
 returns c =
@@ -37,6 +55,7 @@ returns c =
     let exact = exactly xs N (c .named-states-named .ensures) b b′ (c .body-b .ensures .made) (w .lines) (w .fields) (w .states) _ refl refl refl refl refl (c .number-states .ensures) (c .number-states-2 .ensures) in
     record {
       exact = exact;
+      there = states-there (c .args .t .now) _ exact;
       order = in-order _;
       meaning = keeps-meaning (c .args .t .now) _ exact;
       makes = λ plus minus v. satisfied plus minus v _ (l .ordered);

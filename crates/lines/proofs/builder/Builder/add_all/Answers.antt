@@ -21,10 +21,11 @@ add-requires c κs =
 
 pub loop-i-again : need.loop-i-again
 loop-i-again c =
-    let e = c .add .ensures in
-    (turn addsAll adds (c .args .t .now .statements) (c .args .t .now .count) (c .loop-i .i) (λ x xs d. refl) _ _ _ _ (omega arith) (c .loop-i-test .taken) (e .made) (c .loop-i .inv .0),
-     omega arith,
-     nests-on (c .args .t .now .statements) (c .args .t .now .count) (c .loop-i .i) _ (omega arith) (c .loop-i-test .taken) (draftOf (c .loop-i .self)) (c .loop-i .inv .2) _ (e .made))
+    let e = c .add .ensures in (
+      turn addsAll adds (c .args .t .now .statements) (c .args .t .now .count) (c .loop-i .i) (λ x xs d. refl) _ _ _ _ (omega arith) (c .loop-i-test .taken) (e .made) (c .loop-i .inv .0),
+      omega arith,
+      nests-on (c .args .t .now .statements) (c .args .t .now .count) (c .loop-i .i) _ (omega arith) (c .loop-i-test .taken) (draftOf (c .loop-i .self)) (c .loop-i .inv .2) _ (e .made),
+    )
 
 pub returns : need.returns
 returns c = record { made = stop addsAll adds (c .args .t .now .statements) (c .args .t .now .count) (c .loop-i .i) (λ d. refl) _ _ (c .loop-i-test .left) (c .loop-i .inv .0); count = omega arith }

@@ -19,25 +19,27 @@ loop-s-again c =
     let N = c .args .named .now in
     let s = c .loop-s .s in
     let b = c .loop-s .self in
-    elim (c .if-named-s .came)
-      [ then-named-s w ↦
+    elim (c .if-named-s .came) [
+      | then-named-s w ↦
           (let p = w .read-state-first .ensures .pushed in
-           let more = ap (λ (x : Builder). x .count) (w .self-is) ∙ p .count in
-           let same = ap (λ (x : Builder). x .states) (w .self-is) ∙ p .states in
-           let table = c .put .ensures ∙ ap₂ (λ (l : List Source) (x : Source). set l s x) same (w .first-is ∙ w .read-state-first .ensures .value) in
-           (ap (λ (l : List Line). l ++ map Read (statesFrom (s + 1) (drop (s + 1) N))) (ap (λ (x : Builder). take (x .count) (x .lines)) (w .self-is) ∙ p .lines) ∙ listed N s (omega arith) Read _ (w .if-named-s .taken) ∙ v .0,
+          let more = ap (λ (x : Builder). x .count) (w .self-is) ∙ p .count in
+          let same = ap (λ (x : Builder). x .states) (w .self-is) ∙ p .states in
+          let table = c .put .ensures ∙ ap₂ (λ (l : List Source) (x : Source). set l s x) same (w .first-is ∙ w .read-state-first .ensures .value) in (
+            ap (λ (l : List Line). l ++ map Read (statesFrom (s + 1) (drop (s + 1) N))) (ap (λ (x : Builder). take (x .count) (x .lines)) (w .self-is) ∙ p .lines) ∙ listed N s (omega arith) Read _ (w .if-named-s .taken) ∙ v .0,
             ap₂ (λ (l : List Source) (n : ℕ). take (s + 1) l ++ firsts n (drop (s + 1) N)) table more ∙ first-named N s (omega arith) (b .count) (b .states) (omega arith) (w .if-named-s .taken) ∙ v .1,
             ap (λ (x : Builder). x .fields) (w .self-is) ∙ p .fields ∙ v .2,
             ap (λ (x : Builder). x .nest) (w .self-is) ∙ p .nest ∙ v .3,
-            omega (arith, more)))
+            omega (arith, more),
+          ))
       | else-named-s w ↦
-          (let table = c .put .ensures ∙ ap₂ (λ (x : Builder) (y : Source). set (x .states) s y) (w .self-is) (w .first-is) in
-           (ap (λ (x : Builder). take (x .count) (x .lines) ++ map Read (statesFrom (s + 1) (drop (s + 1) N))) (w .self-is) ∙ unlisted N s (omega arith) Read _ (w .if-named-s .left) ∙ v .0,
+          (let table = c .put .ensures ∙ ap₂ (λ (x : Builder) (y : Source). set (x .states) s y) (w .self-is) (w .first-is) in (
+            ap (λ (x : Builder). take (x .count) (x .lines) ++ map Read (statesFrom (s + 1) (drop (s + 1) N))) (w .self-is) ∙ unlisted N s (omega arith) Read _ (w .if-named-s .left) ∙ v .0,
             ap₂ (λ (l : List Source) (x : Builder). take (s + 1) l ++ firsts (x .count) (drop (s + 1) N)) table (w .self-is) ∙ first-unnamed N s (omega arith) (b .count) (b .states) (omega arith) (w .if-named-s .left) ∙ v .1,
             ap (λ (x : Builder). x .fields) (w .self-is) ∙ v .2,
             ap (λ (x : Builder). x .nest) (w .self-is) ∙ v .3,
-            omega (arith, ap (λ (x : Builder). x .count) (w .self-is))))
-      ]
+            omega (arith, ap (λ (x : Builder). x .count) (w .self-is)),
+          ))
+    ]
 
 pub returns : need.returns
 returns c =

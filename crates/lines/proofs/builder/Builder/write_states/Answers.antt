@@ -20,21 +20,23 @@ loop-s-again c =
     let N = c .args .named .now in
     let s = c .loop-s .s in
     let us = c .args .self .now .states in
-    elim (c .if-named-s .came)
-      [ then-named-s w ↦
+    elim (c .if-named-s .came) [
+      | then-named-s w ↦
           (let p = w .push .ensures in
-           let u : w .source-update .result ≡ getD us s (Fixed 0) = w .source-update .ensures ∙ ap (λ (l : List Source). getD l s (Fixed 0)) (v .3) in
-           let new = ap (λ (b : Builder). take (b .count) (b .lines)) (w .self-is) ∙ p .lines ∙ ap (λ (x : Source). take (c .loop-s .self .count) (c .loop-s .self .lines) ++ (Write s x ∷ [])) u in
-           (ap (λ (l : List Line). l ++ map (writeLine us) (statesFrom (s + 1) (drop (s + 1) N))) new ∙ listed N s (omega arith) (writeLine us) _ (w .if-named-s .taken) ∙ v .0,
+          let u : w .source-update .result ≡ getD us s (Fixed 0) = w .source-update .ensures ∙ ap (λ (l : List Source). getD l s (Fixed 0)) (v .3) in
+          let new = ap (λ (b : Builder). take (b .count) (b .lines)) (w .self-is) ∙ p .lines ∙ ap (λ (x : Source). take (c .loop-s .self .count) (c .loop-s .self .lines) ++ (Write s x ∷ [])) u in (
+            ap (λ (l : List Line). l ++ map (writeLine us) (statesFrom (s + 1) (drop (s + 1) N))) new ∙ listed N s (omega arith) (writeLine us) _ (w .if-named-s .taken) ∙ v .0,
             omega (arith, ap (λ (b : Builder). b .count) (w .self-is), p .count),
             ap (λ (b : Builder). b .fields) (w .self-is) ∙ p .fields ∙ v .2,
-            ap (λ (b : Builder). b .states) (w .self-is) ∙ p .states ∙ v .3))
-      | else-named-s w ↦
-          (ap (λ (b : Builder). take (b .count) (b .lines) ++ map (writeLine us) (statesFrom (s + 1) (drop (s + 1) N))) (w .self-is) ∙ unlisted N s (omega arith) (writeLine us) _ (w .if-named-s .left) ∙ v .0,
-           omega (arith, ap (λ (b : Builder). b .count) (w .self-is)),
-           ap (λ (b : Builder). b .fields) (w .self-is) ∙ v .2,
-           ap (λ (b : Builder). b .states) (w .self-is) ∙ v .3)
-      ]
+            ap (λ (b : Builder). b .states) (w .self-is) ∙ p .states ∙ v .3,
+          ))
+      | else-named-s w ↦ (
+        ap (λ (b : Builder). take (b .count) (b .lines) ++ map (writeLine us) (statesFrom (s + 1) (drop (s + 1) N))) (w .self-is) ∙ unlisted N s (omega arith) (writeLine us) _ (w .if-named-s .left) ∙ v .0,
+        omega (arith, ap (λ (b : Builder). b .count) (w .self-is)),
+        ap (λ (b : Builder). b .fields) (w .self-is) ∙ v .2,
+        ap (λ (b : Builder). b .states) (w .self-is) ∙ v .3,
+      )
+    ]
 
 pub returns : need.returns
 returns c =

@@ -16,9 +16,10 @@ loop-n-again g c =
     let v = c .loop-n .inv in
     let n = c .loop-n .n in
     let packet = values (c .args .fields .now) (c .args .words .now) in
-    let before = ap (λ (k : ℕ). makes (g .M·Arithmetic .plus) (g .M·Arithmetic .minus) packet (take k (c .loop-n .made)) (getD (c .args .self .now .lines) n (Read 0))) (sub-zero n) in
-    (length-set (c .loop-n .made) n _ ∙ v .0,
-     works (g .M·Arithmetic .plus) (g .M·Arithmetic .minus) packet (c .args .self .now .lines) n (Read 0) (c .loop-n .made) _ (omega arith) (omega arith) (c .make-value .ensures ∙ before) (v .1))
+    let before = ap (λ (k : ℕ). makes (g .M·Arithmetic .plus) (g .M·Arithmetic .minus) packet (take k (c .loop-n .made)) (getD (c .args .self .now .lines) n (Read 0))) (sub-zero n) in (
+      length-set (c .loop-n .made) n _ ∙ v .0,
+      works (g .M·Arithmetic .plus) (g .M·Arithmetic .minus) packet (c .args .self .now .lines) n (Read 0) (c .loop-n .made) _ (omega arith) (omega arith) (c .make-value .ensures ∙ before) (v .1),
+    )
 
 pub returns : need.returns
 returns g c =
