@@ -8,13 +8,13 @@ ghost use Rattle.transaction.specs.Frames.{framesOf, elses};
 ghost use Rattle.transaction.specs.Programs.{statementsOf};
 ghost use Rattle.transaction.specs.Statements.{kindOf};
 ghost use Rattle.transaction.specs.WellFormed.{fits};
-ghost use Rattle.lines.specs.Build.{sourceOf, last as lastOf, chooseFor, assigned, adds, addsAll, readLines, firsts, start, writeLines, numbered};
+ghost use Rattle.lines.specs.Build.{sourceOf, last as lastOf, chooseFor, assigned, adds, addsAll, readLines, firsts, start, writeLine, writeLines, numbered};
 ghost use Rattle.lines.specs.declared.line.Line.the-variants.{Read};
 ghost use Rattle.lines.specs.declared.line.Source.the-variants.{Field as Incoming, Line as Made};
 ghost use Rattle.lines.specs.Named.{upFrom};
 ghost use Rattle.lines.specs.Exact.{Exactly, Named-there, In-order};
 ghost use Rattle.lines.specs.Meaning.{Keeps-meaning, Each-makes};
-ghost use Rattle.lines.specs.View.{draftOf, Pushed, Guarded};
+ghost use Rattle.lines.specs.View.{draftOf, frameAt, Pushed, Guarded};
 use crate::builder::Builder;
 use crate::line::Line;
 use crate::line::Source;
@@ -69,15 +69,25 @@ impl Builder {
         self.count += 1;
     }
 
+    // The choose line of open if j, counted from the outermost.
+    fn guard_by(&mut self, j: usize, old: Source)
+        requires some { ⌜ 0 < now self .count ⌝ }
+        requires room { ⌜ now self .count < 208 ⌝ }
+        requires open { ⌜ j < now self .nest .depth ⌝ }
+        ensures { λ _. ⌜ Pushed (chooseFor (frameAt (now (self .entry) .nest) j) (lastOf (draftOf (now (self .entry)) .lines)) old) (now (self .entry)) (now (self .exit)) ⌝ }
+    {
+        let frame = self.nest.frames[j];
+        let new = self.last();
+        self.push(choose_for(frame, new, old));
+    }
+
     // A choose line for each open if, innermost first.
     fn guard(&mut self, old: Source)
         requires { ⌜ 0 < now self .count ⌝ ∗ ⌜ now self .count + now self .nest .depth ≤ 208 ⌝ }
         ensures { λ _. ⌜ Guarded old (now (self .entry)) (now (self .exit)) ⌝ }
     {
         for j in (0..self.nest.depth).rev() {
-            let new = self.last();
-            let frame = self.nest.frames[j];
-            self.push(choose_for(frame, new, old));
+            self.guard_by(j, old);
         }
     }
 
@@ -152,6 +162,15 @@ impl Builder {
         value
     }
 
+    // A state's write line, which takes its latest value.
+    fn write_state(&mut self, s: u8)
+        requires { ⌜ now self .count < 208 ⌝ }
+        ensures { λ _. ⌜ Pushed (writeLine (now (self .entry) .states) s) (now (self .entry)) (now (self .exit)) ⌝ }
+    {
+        let update = self.source(Operand::State(s));
+        self.push(Line::Write(s, update));
+    }
+
     // No line yet; a state has no value before its read line.
     fn new() -> Builder
         ensures fields { λ r. ⌜ r .fields ≡ map Incoming (upFrom 16 0) ⌝ }
@@ -223,8 +242,7 @@ impl Builder {
     {
         for s in 0..8 {
             if named[s] {
-                let update = self.source(Operand::State(s as u8));
-                self.push(Line::Write(s as u8, update));
+                self.write_state(s as u8);
             }
         }
     }

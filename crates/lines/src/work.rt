@@ -1,7 +1,8 @@
 // The values of the lines.
 ghost use mathlib.Core.Path.{_≡_};
-ghost use lib.ListN.{take};
+ghost use lib.ListN.{getD, take};
 ghost use Rattle.meaning.specs.Serial.{values};
+ghost use Rattle.lines.specs.declared.line.Line.the-variants.{Read};
 ghost use Rattle.lines.specs.Work.{valueOf, makes, worked, Satisfied};
 use crate::line::Line;
 use crate::line::Source;
@@ -49,6 +50,13 @@ impl Line {
 }
 
 impl Lines {
+    // What line n makes.
+    fn make<M: Arithmetic>(&self, n: usize, fields: &[u32], words: &[u32], made: &[u32]) -> u32
+        ensures { λ r. ⌜ r ≡ makes (M·Arithmetic .plus) (M·Arithmetic .minus) (values (now (fields .entry)) (now (words .entry))) (now (made .entry)) (getD (now (self .entry) .lines) n (Read 0)) ⌝ }
+    {
+        at(&self.lines, n, Line::Read(0)).make::<M>(fields, words, made)
+    }
+
     // The values of the lines, one after another.
     pub fn work_out<M: Arithmetic>(&self, fields: &[u32], words: &[u32]) -> [u32; 208]
         ensures worked { λ r. ⌜ take (now (self .entry) .count) r ≡ worked (M·Arithmetic .plus) (M·Arithmetic .minus) (values (now (fields .entry)) (now (words .entry))) (take (now (self .entry) .count) (now (self .entry) .lines)) ⌝ }
@@ -56,7 +64,7 @@ impl Lines {
     {
         let mut made = [0; 208];
         for n in 0..self.count {
-            let value = self.lines[n].make::<M>(fields, words, &made[0..n]);
+            let value = self.make::<M>(n, fields, words, &made[0..n]);
             made[n] = value;
         }
         made

@@ -1,12 +1,10 @@
-use mathlib.Core.Path.{_≡_, refl, ap, _∙_}
+use mathlib.Core.Path.{_≡_, ap, _∙_}
 use mathlib.Core.List.{List, [], _∷_, _++_, map}
 use Prim.Native.Nat.{_+_}
 use native.Mathlib.Omega.{arith}
-use lib.ListN.{take, getD, drop}
+use lib.ListN.{take, drop}
 use Rattle.lines.specs.declared.line.Line.{Line}
-use Rattle.lines.specs.declared.line.Line.the-variants.{Write}
 use Rattle.lines.specs.declared.line.Source.{Source}
-use Rattle.lines.specs.declared.line.Source.the-variants.{Constant as Fixed}
 use Rattle.lines.specs.declared.builder.Builder.{Builder}
 use Rattle.lines.specs.Named.{statesFrom}
 use Rattle.lines.specs.Build.{writeLine}
@@ -20,21 +18,21 @@ loop-s-again c =
     let N = c .args .named .now in
     let s = c .loop-s .s in
     let us = c .args .self .now .states in
+    let b = c .loop-s .self in
     elim (c .if-named-s .came) [
       | then-named-s w ↦
-          (let p = w .push .ensures in
-          let u : w .source-update .result ≡ getD us s (Fixed 0) = w .source-update .ensures ∙ ap (λ (l : List Source). getD l s (Fixed 0)) (v .3) in
-          let new = ap (λ (b : Builder). take (b .count) (b .lines)) (w .self-is) ∙ p .lines ∙ ap (λ (x : Source). take (c .loop-s .self .count) (c .loop-s .self .lines) ++ (Write s x ∷ [])) u in (
+          (let p = w .write-state .ensures in
+          let new = ap (λ (x : Builder). take (x .count) (x .lines)) (w .self-is) ∙ p .lines ∙ ap (λ (l : List Source). take (b .count) (b .lines) ++ (writeLine l s ∷ [])) (v .3) in (
             ap (λ (l : List Line). l ++ map (writeLine us) (statesFrom (s + 1) (drop (s + 1) N))) new ∙ listed N s (omega arith) (writeLine us) _ (w .if-named-s .taken) ∙ v .0,
-            omega (arith, ap (λ (b : Builder). b .count) (w .self-is), p .count),
-            ap (λ (b : Builder). b .fields) (w .self-is) ∙ p .fields ∙ v .2,
-            ap (λ (b : Builder). b .states) (w .self-is) ∙ p .states ∙ v .3,
+            omega (arith, ap (λ (x : Builder). x .count) (w .self-is), p .count),
+            ap (λ (x : Builder). x .fields) (w .self-is) ∙ p .fields ∙ v .2,
+            ap (λ (x : Builder). x .states) (w .self-is) ∙ p .states ∙ v .3,
           ))
       | else-named-s w ↦ (
-        ap (λ (b : Builder). take (b .count) (b .lines) ++ map (writeLine us) (statesFrom (s + 1) (drop (s + 1) N))) (w .self-is) ∙ unlisted N s (omega arith) (writeLine us) _ (w .if-named-s .left) ∙ v .0,
-        omega (arith, ap (λ (b : Builder). b .count) (w .self-is)),
-        ap (λ (b : Builder). b .fields) (w .self-is) ∙ v .2,
-        ap (λ (b : Builder). b .states) (w .self-is) ∙ v .3,
+        ap (λ (x : Builder). take (x .count) (x .lines) ++ map (writeLine us) (statesFrom (s + 1) (drop (s + 1) N))) (w .self-is) ∙ unlisted N s (omega arith) (writeLine us) _ (w .if-named-s .left) ∙ v .0,
+        omega (arith, ap (λ (x : Builder). x .count) (w .self-is)),
+        ap (λ (x : Builder). x .fields) (w .self-is) ∙ v .2,
+        ap (λ (x : Builder). x .states) (w .self-is) ∙ v .3,
       )
     ]
 
