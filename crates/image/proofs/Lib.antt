@@ -1,0 +1,6 @@
+pub mod AcceptsWritten
+pub mod GoodReads
+pub mod Spans
+pub mod WrittenNumbers
+pub mod WrittenPlaces
+pub mod WrittenStatements

@@ -1,5 +1,6 @@
 // The image of a transaction, read.
-ghost use Rattle.image.specs.Theorem.{Accepts-written};
 mod reader;
+mod theorem;
 
 pub use reader::Reader;
+pub use theorem::accepts_written;
