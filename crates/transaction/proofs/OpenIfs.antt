@@ -21,7 +21,7 @@ module _ {A : Type 0} (l : List A) (d : ℕ) where
   pub how-many : d ≤ length l → length (reverse (take d l)) ≡ d
   how-many h = length-reverse (take d l) ∙ length-take-le d l h
 
-  one-more : (z : A) → d < length l → reverse (take (d + 1) l) ≡ getD l d z ∷ reverse (take d l)
+  pub one-more : (z : A) → d < length l → reverse (take (d + 1) l) ≡ getD l d z ∷ reverse (take d l)
   one-more z h = ap reverse (take-more l d z h) ∙ reverse-append (take d l) (getD l d z ∷ [])
 
 module _ {A : Type 0} (l : List A) (d : ℕ) (z : A) (some : 0 < d) (room : d ≤ length l) where
