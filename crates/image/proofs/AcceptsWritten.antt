@@ -1,5 +1,5 @@
 -- An image is accepted exactly when it is the written form of a well-formed transaction. Assumes nothing.
-use mathlib.Core.Path.{_≡_, sym, ap, subst}
+use mathlib.Core.Path.{_≡_, sym, ap, subst, _∙_}
 use mathlib.Core.Bool.{true, _&&_, _||_}
 use mathlib.Core.List.{List, [], _++_}
 use Prim.Native.Nat.{ℕ, _≤_}
@@ -9,9 +9,9 @@ use lib.ListN.{length}
 use Rattle.std.proofs.shelf.Tests.{and-parts, and-from, or-parts, or-from, ltb-false, le-ltb, leb-true, le-leb, cond-false}
 use Rattle.transaction.specs.declared.statement.Statement.{Statement}
 use Rattle.transaction.specs.WellFormed.{Program, within, nested, wellFormed}
-use Rattle.image.specs.Reading.{got, answer, withinAt, programAt}
+use Rattle.image.specs.Reading.{Answer, got, answer, imageSays, withinAt, programAt}
 use Rattle.image.specs.Writing.{number, writtenAll, written}
-use Rattle.image.specs.Theorem.{Bytes, Accepts-written}
+use Rattle.image.specs.Theorem.{Accepts-written, Read-exactly}
 use Rattle.image.proofs.GoodReads.{carried, unless, answer-good, next-case, next-from}
 use Rattle.image.proofs.Spans.{Spans, spans-join, spans-split, spans-whole, whole-spans}
 use Rattle.image.proofs.WrittenNumbers.{number-from, number-to}
@@ -21,12 +21,12 @@ use Rattle.image.proofs.WrittenStatements.{More, statements-to, statements-fro
 abbrev Within-at : ℕ → ℕ → List ℕ → ℕ → ℕ → ℕ → Type 0
 Within-at low high bs at n end = Spans bs at (number n) end × (low ≤ n) × (n ≤ high)
 
-within-to : (low high : ℕ) (bs : List ℕ) → Bytes bs → {at n end : ℕ} → withinAt low high bs at ≡ got n end → Within-at low high bs at n end
-within-to low high bs all {at} e =
+pub within-to : (low high : ℕ) (bs : List ℕ) {at n end : ℕ} → withinAt low high bs at ≡ got n end → Within-at low high bs at n end
+within-to low high bs {at} e =
     next-case _ _ e λ n i x e.
     let u = unless (ltb n low || ltb high n) _ _ e in
     let h = or-parts (ltb n low) (ltb high n) (u .0) in
-    carried (Within-at low high bs at) (u .1) (number-to bs all x .0, ltb-false n low (h .0), ltb-false high n (h .1))
+    carried (Within-at low high bs at) (u .1) (number-to bs x .0, ltb-false n low (h .0), ltb-false high n (h .1))
 
 within-from : (low high : ℕ) (bs : List ℕ) {at : ℕ} (n : ℕ) {end : ℕ} → high ≤ 48 → Within-at low high bs at n end → withinAt low high bs at ≡ got n end
 within-from low high bs n few p = next-from _ (number-from bs (p .0) (omega arith)) (cond-false _ _ _ (or-from _ _ (le-ltb n low (p .1)) (le-ltb high n (p .2))))
@@ -80,10 +80,10 @@ module _ (bs : List ℕ) where
       subst (λ (xs : List Statement). Written-well (record { fields = f; states = s; statements = xs }) end) (sym (m .whole)) (
         well-to (record { some-fields = f-at .1; few-fields = f-at .2; few-states = s-at .2; few = few; there = m .there; nest = m .nest }),
         spans-whole bs _ end h parts,
-      )
+     )
 
-  program-to : {p : Program} {end : ℕ} → Bytes bs → programAt bs 0 ≡ got p end → Written-well p end
-  program-to all e =
+  program-to : {p : Program} {end : ℕ} → programAt bs 0 ≡ got p end → Written-well p end
+  program-to e =
       next-case _ _ e λ v i v-at e.
       next-case _ _ e λ f j f-at e.
       next-case _ _ e λ s k s-at e.
@@ -91,7 +91,7 @@ module _ (bs : List ℕ) where
       next-case _ _ e λ xs end xs-at e.
       let u = unless (ltb end (length bs)) _ _ e in
       carried Written-well (u .1)
-      (whole-image (within-to 1 1 bs all v-at) (within-to 1 16 bs all f-at) (within-to 0 8 bs all s-at) (within-to 0 48 bs all n-at) (statements-to bs f s all n [] [] xs-at) (ltb-false end (length bs) (u .0)))
+      (whole-image (within-to 1 1 bs v-at) (within-to 1 16 bs f-at) (within-to 0 8 bs s-at) (within-to 0 48 bs n-at) (statements-to bs f s n [] [] xs-at) (ltb-false end (length bs) (u .0)))
 
   program-from : (p : Program) → wellFormed p ≡ true → Spans bs 0 (written p) (length bs) → programAt bs 0 ≡ got p (length bs)
   program-from p e stand =
@@ -113,6 +113,13 @@ module _ (bs : List ℕ) where
 
 pub accepts-written : Accepts-written
 accepts-written = record {
-  accepted = λ bs p all e. program-to bs all (answer-good (programAt bs 0) e .1);
+  accepted = λ bs p e. program-to bs (answer-good (programAt bs 0) e .1);
   reads-back = λ p e. ap answer (program-from (written p) p e (whole-spans (written p)));
+}
+
+pub read-exactly : (bs : List ℕ) (a : Answer Program) → a ≡ imageSays bs → Read-exactly bs a
+read-exactly bs a e = record {
+  answer = e;
+  accepted = λ p h. accepts-written .accepted bs p (sym e ∙ h);
+  complete = λ p w same. e ∙ ap imageSays same ∙ accepts-written .reads-back p w;
 }

@@ -1,7 +1,6 @@
 pub mod AcceptsWritten
 pub mod GoodReads
 pub mod Numbers
-pub mod Soundness
 pub mod Spans
 pub mod Steps
 pub mod Tables

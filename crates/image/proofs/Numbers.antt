@@ -8,7 +8,7 @@ use native.Mathlib.Numerals.{add-one}
 use lib.Dec.{ltb, leb, eqb}
 use lib.ListN.{length, getD, drop, length-drop}
 use lib.Seq.{drop-cons}
-use Rattle.std.proofs.shelf.Tests.{lt-ltb, le-ltb, cond-true, cond-false}
+use Rattle.std.proofs.shelf.Tests.{lt-ltb, le-ltb, cond-true, cond-false, and-from, and-left}
 use Rattle.std.proofs.shelf.Ways.{tells}
 use Rattle.image.specs.Reading.{Read, got, refused, groups, ending}
 use Rattle.transaction.specs.Faults.{refusal}
@@ -34,14 +34,14 @@ module _ (start k v : ℕ) where
   -- five groups and no end
   pub five : (l : List ℕ) → 5 ≤ k → groups start k v l ≡ refused (refusal 3 start) start
   five [] e = refl
-  five (b ∷ l) e = cond-false _ _ _ (le-ltb k 5 (omega arith))
+  five (b ∷ l) e = cond-false _ _ _ (and-left _ _ (le-ltb k 5 (omega arith)))
 
   module _ (bs : List ℕ) (at : ℕ) (within : at < length bs) (few : k < 5) where
     abbrev b : ℕ
     b = getD bs at 0
 
     pub last : b < 128 → groups start k v (drop at bs) ≡ ending start (eqb b 0 && ltb 0 k) (v + b * 2 ^ (7 * k)) (start + k + 1)
-    last h = rw (drop-cons bs at 0 within) (cond-true _ _ _ (lt-ltb k 5 few) ∙ cond-true _ _ _ (lt-ltb b 128 h))
+    last h = rw (drop-cons bs at 0 within) (cond-true _ _ _ (and-from _ _ (lt-ltb k 5 few) (lt-ltb b 256 (omega arith))) ∙ cond-true _ _ _ (lt-ltb b 128 h))
 
     -- what the last group decides
     pub padded : b < 128 → b ≡ 0 → 0 < k → groups start k v (drop at bs) ≡ refused (refusal 3 start) start
@@ -53,5 +53,5 @@ module _ (start k v : ℕ) where
     pub fine : (x end : ℕ) → x ≡ b * 2 ^ (7 * k) → b < 128 → end ≡ start + k + 1 → (b ≡ 0 → k ≤ 0) → v + x ≤ 4294967295 → groups start k v (drop at bs) ≡ got (v + x) end
     fine x end e h f i j = last h ∙ decide-fine start b k (v + b * 2 ^ (7 * k)) (start + k + 1) i (omega arith) ∙ cc
 
-    pub more : 128 ≤ b → groups start k v (drop at bs) ≡ groups start (k + 1) (v + (b - 128) * 2 ^ (7 * k)) (drop (at + 1) bs)
-    more h = rw (add-one at, drop-cons bs at 0 within) (cond-true _ _ _ (lt-ltb k 5 few) ∙ cond-false _ _ _ (le-ltb b 128 h))
+    pub more : 128 ≤ b → b < 256 → groups start k v (drop at bs) ≡ groups start (k + 1) (v + (b - 128) * 2 ^ (7 * k)) (drop (at + 1) bs)
+    more h byte = rw (add-one at, drop-cons bs at 0 within) (cond-true _ _ _ (and-from _ _ (lt-ltb k 5 few) (lt-ltb b 256 byte)) ∙ cond-false _ _ _ (le-ltb b 128 h))

@@ -6,17 +6,11 @@ use native.Mathlib.Omega.{arith}
 use lib.ListN.{length, drop, length-append}
 use lib.Seq.{drop-drop, drop-append-seam, drop-length}
 use Rattle.std.proofs.shelf.Lists.{drop-all}
-use Rattle.image.specs.Theorem.{Bytes}
 
 -- the bytes of l stand from `at` up to end
 pub record Spans (bs : List ℕ) (at : ℕ) (l : List ℕ) (end : ℕ) : Type 0 where
   pub stand : drop at bs ≡ l ++ drop end bs
   pub long : end ≡ at + length l
-
-pub bytes-drop : (at : ℕ) (bs : List ℕ) → Bytes bs → Bytes (drop at bs)
-bytes-drop zero bs all = all
-bytes-drop (suc at) [] all = all
-bytes-drop (suc at) (b ∷ bs) all = bytes-drop at bs (all .1)
 
 module _ (bs : List ℕ) where
   pub spans-none : (at : ℕ) → Spans bs at [] at

@@ -9,13 +9,12 @@ use native.Mathlib.Omega.{arith}
 use lib.Dec.{ltb, eqb}
 use lib.ListN.{length, drop}
 use lib.Pow.{pow-add}
-use Rattle.std.proofs.shelf.Tests.{lt-ltb, le-ltb, ltb-false, or-parts, cond-true, cond-false, cases-lt}
+use Rattle.std.proofs.shelf.Tests.{lt-ltb, le-ltb, ltb-true, ltb-false, and-parts, and-from, and-left, or-parts, cond-true, cond-false, cases-lt}
 use Rattle.std.proofs.shelf.Ways.{tells}
 use Rattle.image.specs.Reading.{got, groups, ending, numberAt}
 use Rattle.image.specs.Writing.{writtenIn, number}
-use Rattle.image.specs.Theorem.{Bytes}
-use Rattle.image.proofs.GoodReads.{refused-not, same-value, same-offset, unless}
-use Rattle.image.proofs.Spans.{Spans, bytes-drop, spans-front}
+use Rattle.image.proofs.GoodReads.{refused-not, same-value, same-offset, unless, only-where}
+use Rattle.image.proofs.Spans.{Spans, spans-front}
 
 parts : (q r w : ℕ) → r * w + q * (w * 128) ≡ (128 * q + r) * w
 parts q r w = omega (arith, add-mul (128 * q) r w, mul-assoc 128 q w, mul-assoc q w 128)
@@ -41,7 +40,7 @@ module _ (start : ℕ) (rest : List ℕ) (j k v m : ℕ) (few : k < 5) where
   Goal = groups start k v (writtenIn (suc j) m ++ rest) ≡ got (v + m * 2 ^ (7 * k)) (start + k + length (writtenIn (suc j) m))
 
   last-one : m < 128 → (0 < k → 0 < m) → v + m * 2 ^ (7 * k) < 4294967296 → Goal
-  last-one h some fit = rw (lt-ltb m 128 h) (cond-true _ _ _ (lt-ltb k 5 few) ∙ cond-true _ _ _ (lt-ltb m 128 h) ∙ fine start m k _ _ some fit)
+  last-one h some fit = rw (lt-ltb m 128 h) (cond-true _ _ _ (and-from _ _ (lt-ltb k 5 few) (lt-ltb m 256 (omega arith))) ∙ cond-true _ _ _ (lt-ltb m 128 h) ∙ fine start m k _ _ some fit)
 
   abbrev v′ : ℕ
   v′ = v + (128 + m % 128 - 128) * 2 ^ (7 * k)
@@ -49,8 +48,9 @@ module _ (start : ℕ) (rest : List ℕ) (j k v m : ℕ) (few : k < 5) where
   more : 128 ≤ m → groups start (k + 1) v′ (writtenIn j (m / 128) ++ rest) ≡ got (v′ + m / 128 * 2 ^ (7 * (k + 1))) (start + (k + 1) + length (writtenIn j (m / 128))) → Goal
   more h t =
       let high : 128 ≤ 128 + m % 128 = omega arith in
+      let byte : 128 + m % 128 < 256 = omega arith in
       let end : start + (k + 1) + length (writtenIn j (m / 128)) ≡ start + k + suc (length (writtenIn j (m / 128))) = omega arith in
-      rw (le-ltb m 128 h) (cond-true _ _ _ (lt-ltb k 5 few) ∙ cond-false _ _ _ (le-ltb (128 + m % 128) 128 high) ∙ t ∙ (λ i. got (split v m k i) (end i)))
+      rw (le-ltb m 128 h) (cond-true _ _ _ (and-from _ _ (lt-ltb k 5 few) (lt-ltb (128 + m % 128) 256 byte)) ∙ cond-false _ _ _ (le-ltb (128 + m % 128) 128 high) ∙ t ∙ (λ i. got (split v m k i) (end i)))
 
 reads : (start : ℕ) (rest : List ℕ) (j k v m : ℕ) → j + k ≡ 5 → (0 < k → 0 < m) → m < 128 ^ j → v + m * 2 ^ (7 * k) < 4294967296 → groups start k v (writtenIn j m ++ rest) ≡ got (v + m * 2 ^ (7 * k)) (start + k + length (writtenIn j m))
 reads start rest zero k v m e some less fit = absurd (omega (arith, some (omega arith)))
@@ -120,20 +120,21 @@ module _ (start j k v b : ℕ) (l : List ℕ) (n end : ℕ) where
         after = omega (arith, r .after, ap length w);
       }
 
-ends : (start j k v : ℕ) (l : List ℕ) (n end : ℕ) → j + k ≡ 5 → Bytes l → groups start k v l ≡ got n end → Ends start k v j l n end
-ends start j k v [] n end e all r = absurd (refused-not r)
-ends start zero k v (b ∷ l) n end e all r = absurd (refused-not (sym (cond-false _ _ _ (le-ltb k 5 (omega arith))) ∙ r))
-ends start (suc j) k v (b ∷ l) n end e all r =
-    let q = sym (cond-true _ _ _ (lt-ltb k 5 (omega arith))) ∙ r in
+ends : (start j k v : ℕ) (l : List ℕ) (n end : ℕ) → j + k ≡ 5 → groups start k v l ≡ got n end → Ends start k v j l n end
+ends start j k v [] n end e r = absurd (refused-not r)
+ends start zero k v (b ∷ l) n end e r = absurd (refused-not (sym (cond-false _ _ _ (and-left _ _ (le-ltb k 5 (omega arith)))) ∙ r))
+ends start (suc j) k v (b ∷ l) n end e r =
+    let q = only-where (ltb k 5 && ltb b 256) _ _ r in
+    let byte : b < 256 = ltb-true b 256 (and-parts (ltb k 5) (ltb b 256) (q .0) .1) in
     ⊎-elim
-    (λ h. last-group start j k v b l n end h (sym (cond-true _ _ _ (lt-ltb b 128 h)) ∙ q))
-    (λ h. more-groups start j k v b l n end h (all .0) (ends start j (k + 1) (v + (b - 128) * 2 ^ (7 * k)) l n end (omega arith) (all .1) (sym (cond-false _ _ _ (le-ltb b 128 h)) ∙ q)))
+    (λ h. last-group start j k v b l n end h (sym (cond-true _ _ _ (lt-ltb b 128 h)) ∙ q .1))
+    (λ h. more-groups start j k v b l n end h byte (ends start j (k + 1) (v + (b - 128) * 2 ^ (7 * k)) l n end (omega arith) (sym (cond-false _ _ _ (le-ltb b 128 h)) ∙ q .1)))
     (cases-lt b 128)
 
 -- a number that is read is a word, and its shortest form stands there
-pub number-to : (bs : List ℕ) → Bytes bs → {at n end : ℕ} → numberAt bs at ≡ got n end → Spans bs at (number n) end × (n ≤ 4294967295)
-number-to bs all {at} {n} {end} e =
-    let r = ends at 5 0 0 (drop at bs) n end refl (bytes-drop at bs all) e in
+pub number-to : (bs : List ℕ) {at n end : ℕ} → numberAt bs at ≡ got n end → Spans bs at (number n) end × (n ≤ 4294967295)
+number-to bs {at} {n} {end} e =
+    let r = ends at 5 0 0 (drop at bs) n end refl e in
     let same : r .m ≡ n = omega (arith, r .value) in
     let after : at + length (number (r .m)) ≡ end = omega (arith, r .after) in
     (subst (λ (x : ℕ). Spans bs at (number x) end) same (subst (λ (x : ℕ). Spans bs at (number (r .m)) x) after (spans-front bs (number (r .m)) (r .rest) at (r .front))), r .fits)

@@ -20,7 +20,6 @@ use Rattle.transaction.specs.Statements.{placed, kinded}
 use Rattle.transaction.specs.WellFormed.{has, hasTarget}
 use Rattle.image.specs.Reading.{got, named, kindAt, placeAt, targetOf, targetAt, operandOf, operandAt}
 use Rattle.image.specs.Writing.{number, kindNumber, writtenTarget, writtenOperand}
-use Rattle.image.specs.Theorem.{Bytes}
 use Rattle.image.proofs.GoodReads.{refused-not, carried, named-some, next-case, next-from}
 use Rattle.image.proofs.Spans.{Spans, spans-join, spans-split}
 use Rattle.image.proofs.WrittenNumbers.{number-from, number-to}
@@ -56,11 +55,11 @@ kinded-from If = (refl, omega arith)
 kinded-from Else = (refl, omega arith)
 kinded-from End = (refl, omega arith)
 
-pub kind-to : (bs : List ℕ) → Bytes bs → {at : ℕ} {k : Kind} {end : ℕ} → kindAt bs at ≡ got k end → Spans bs at (number (kindNumber k)) end
-kind-to bs all {at} {k} {end} e =
+pub kind-to : (bs : List ℕ) {at : ℕ} {k : Kind} {end : ℕ} → kindAt bs at ≡ got k end → Spans bs at (number (kindNumber k)) end
+kind-to bs {at} {k} {end} e =
     next-case _ _ e λ n i x e.
     let w = named-some (kinded n) at i e in
-    subst₂ (λ (n i : ℕ). Spans bs at (number n) i) (kinded-to n k (w .0)) (w .1) (number-to bs all x .0)
+    subst₂ (λ (n i : ℕ). Spans bs at (number n) i) (kinded-to n k (w .0)) (w .1) (number-to bs x .0)
 
 pub kind-from : (bs : List ℕ) {at : ℕ} (k : Kind) {end : ℕ} → Spans bs at (number (kindNumber k)) end → kindAt bs at ≡ got k end
 kind-from bs {at} k {end} p =
@@ -102,7 +101,7 @@ placed-from f s (AtState k) few fewer h =
           ∙ cond-true _ _ _ (and-from _ _ (le-leb 16 (16 + k) (omega arith)) (and-from _ _ (lt-ltb (16 + k) 24 (omega arith)) there))
           ∙ ap (λ (x : ℕ). Some (AtState x)) same,
       omega arith,
-    )
+   )
 placed-from f s AtConstant few fewer h = (refl, omega arith)
 
 module _ (bs : List ℕ) (f s : ℕ) where
@@ -116,13 +115,13 @@ module _ (bs : List ℕ) (f s : ℕ) where
   abbrev pub Operand-at : ℕ → Operand → ℕ → Type 0
   Operand-at at a end = Spans bs at (writtenOperand a) end × (has f s a ≡ true)
 
-module _ (bs : List ℕ) (f s : ℕ) (all : Bytes bs) where
+module _ (bs : List ℕ) (f s : ℕ) where
   place-to : {at : ℕ} {p : Place} {end : ℕ} → placeAt f s bs at ≡ got p end → Place-at bs f s at p end
   place-to {at} {p} {end} e =
       next-case _ _ e λ n i x e.
       let w = named-some (placed f s n) at i e in
       let y = placed-to f s n p (w .0) in
-      (subst₂ (λ (n i : ℕ). Spans bs at (number n) i) (y .0) (w .1) (number-to bs all x .0), y .1)
+      (subst₂ (λ (n i : ℕ). Spans bs at (number n) i) (y .0) (w .1) (number-to bs x .0), y .1)
 
   pub target-to : {at : ℕ} {t : Target} {end : ℕ} → targetAt f s bs at ≡ got t end → Target-at bs f s at t end
   target-to {at} {t} {end} e =
@@ -142,7 +141,7 @@ module _ (bs : List ℕ) (f s : ℕ) (all : Bytes bs) where
       go (AtState k) mid p e = carried (Operand-at bs f s at) e p
       go AtConstant mid p e =
           next-case _ _ e λ n i x e.
-          let v = number-to bs all x in
+          let v = number-to bs x in
           carried (Operand-at bs f s at) e (spans-join bs (p .0) (v .0), le-leb n 4294967295 (v .1))
 
 module _ (bs : List ℕ) (f s : ℕ) (few : f ≤ 16) (fewer : s ≤ 8) where

@@ -15,7 +15,6 @@ use Rattle.transaction.specs.Statements.{kindOf}
 use Rattle.transaction.specs.WellFormed.{has, hasTarget, hasAll, within, opened, fits, after, nested}
 use Rattle.image.specs.Reading.{got, pairAt, pairOf, restAt, fittingAt, statementsAt}
 use Rattle.image.specs.Writing.{number, kindNumber, writtenTarget, writtenOperand, writtenRest, writtenStatement, writtenAll}
-use Rattle.image.specs.Theorem.{Bytes}
 use Rattle.image.proofs.GoodReads.{carried, unless, only-where, next-case, next-from}
 use Rattle.image.proofs.Spans.{Spans, spans-none, none-spans, spans-join, spans-split}
 use Rattle.image.proofs.WrittenPlaces.{Operand-at, kind-to, kind-from, target-to, target-from, operand-to, operand-from}
@@ -31,15 +30,15 @@ module _ (bs : List ℕ) (f s : ℕ) where
   abbrev Rest-at : Kind → ℕ → Statement → ℕ → Type 0
   Rest-at k at x end = Spans bs at (writtenRest x) end × (hasAll f s x ≡ true) × (kindOf x ≡ k)
 
-module _ (bs : List ℕ) (f s : ℕ) (all : Bytes bs) where
+module _ (bs : List ℕ) (f s : ℕ) where
   pair-to : {at : ℕ} {p : Pair} {end : ℕ} → pairAt f s bs at ≡ got p end → Pair-at bs f s at p end
   pair-to {at} e =
       next-case _ _ e λ t i x e.
       next-case _ _ e λ a j y e.
       next-case _ _ e λ b k z e.
-      let x = target-to bs f s all x in
-      let y = operand-to bs f s all y in
-      let z = operand-to bs f s all z in
+      let x = target-to bs f s x in
+      let y = operand-to bs f s y in
+      let z = operand-to bs f s z in
       carried (Pair-at bs f s at) e (spans-join bs (x .0) (spans-join bs (y .0) (z .0)), and-from _ _ (x .1) (and-from _ _ (y .1) (z .1)))
 
   -- a statement of a target and two operands
@@ -60,8 +59,8 @@ module _ (bs : List ℕ) (f s : ℕ) (all : Bytes bs) where
   rest-to K-Copy {at} e =
       next-case _ _ e λ t i x e.
       next-case _ _ e λ a j y e.
-      let x = target-to bs f s all x in
-      let y = operand-to bs f s all y in
+      let x = target-to bs f s x in
+      let y = operand-to bs f s y in
       carried (Rest-at bs f s K-Copy at) e (spans-join bs (x .0) (y .0), and-from _ _ (x .1) (y .1), refl)
   rest-to K-Add e = of-pair-to K-Add (λ t a b. Add t a b) (λ p i q. (q .0, q .1, refl)) e
   rest-to K-Sub e = of-pair-to K-Sub (λ t a b. Sub t a b) (λ p i q. (q .0, q .1, refl)) e
@@ -70,10 +69,10 @@ module _ (bs : List ℕ) (f s : ℕ) (all : Bytes bs) where
   rest-to K-Choose {at} e =
       next-case _ _ e λ p i x e.
       next-case _ _ e λ b j y e.
-      carried (Rest-at bs f s K-Choose at) e (choose-at (p .0) (p .1) (p .2) b (pair-to x) (operand-to bs f s all y))
+      carried (Rest-at bs f s K-Choose at) e (choose-at (p .0) (p .1) (p .2) b (pair-to x) (operand-to bs f s y))
   rest-to K-If {at} e =
       next-case _ _ e λ c i x e.
-      let x = operand-to bs f s all x in
+      let x = operand-to bs f s x in
       carried (Rest-at bs f s K-If at) e (x .0, x .1, refl)
   rest-to K-Else {at} e = carried (Rest-at bs f s K-Else at) e (spans-none bs at, refl, refl)
   rest-to K-End {at} e = carried (Rest-at bs f s K-End at) e (spans-none bs at, refl, refl)
@@ -116,11 +115,11 @@ module _ (bs : List ℕ) (f s : ℕ) (few : f ≤ 16) (fewer : s ≤ 8) where
   rest-from Else p e = ap (got Else) (none-spans bs p)
   rest-from End p e = ap (got End) (none-spans bs p)
 
-fitting-to : (bs : List ℕ) → Bytes bs → (ifs : List Bool) {at : ℕ} {k : Kind} {end : ℕ} → fittingAt ifs bs at ≡ got k end → Spans bs at (number (kindNumber k)) end × (fits k ifs ≡ true)
-fitting-to bs all ifs {at} e =
+fitting-to : (bs : List ℕ) (ifs : List Bool) {at : ℕ} {k : Kind} {end : ℕ} → fittingAt ifs bs at ≡ got k end → Spans bs at (number (kindNumber k)) end × (fits k ifs ≡ true)
+fitting-to bs ifs {at} e =
     next-case _ _ e λ k i x e.
     let u = only-where (fits k ifs) _ _ e in
-    carried (λ (k : Kind) (i : ℕ). Spans bs at (number (kindNumber k)) i × (fits k ifs ≡ true)) (u .1) (kind-to bs all x, u .0)
+    carried (λ (k : Kind) (i : ℕ). Spans bs at (number (kindNumber k)) i × (fits k ifs ≡ true)) (u .1) (kind-to bs x, u .0)
 
 -- Statements one after another.
 module _ (bs : List ℕ) (f s : ℕ) where
@@ -134,9 +133,9 @@ module _ (bs : List ℕ) (f s : ℕ) where
     pub stand : Spans bs at (writtenAll more) end
 
   -- one, and n more after it
-  one-more : Bytes bs → (n : ℕ) (ifs : List Bool) (done : List Statement) (at : ℕ) (k : Kind) (x : Statement) (i j : ℕ) {xs : List Statement} {end : ℕ} → fittingAt ifs bs at ≡ got k i → Rest-at bs f s k i x j → More n (after k ifs) (done ++ (x ∷ [])) j xs end → More (suc n) ifs done at xs end
-  one-more all n ifs done at k x i j {xs} {end} e p r =
-      let u = fitting-to bs all ifs e in
+  one-more : (n : ℕ) (ifs : List Bool) (done : List Statement) (at : ℕ) (k : Kind) (x : Statement) (i j : ℕ) {xs : List Statement} {end : ℕ} → fittingAt ifs bs at ≡ got k i → Rest-at bs f s k i x j → More n (after k ifs) (done ++ (x ∷ [])) j xs end → More (suc n) ifs done at xs end
+  one-more n ifs done at k x i j {xs} {end} e p r =
+      let u = fitting-to bs ifs e in
       let same : k ≡ kindOf x = sym (p .2) in
       record {
         more = x ∷ r .more;
@@ -147,15 +146,15 @@ module _ (bs : List ℕ) (f s : ℕ) where
         stand = spans-join bs (spans-join bs (subst (λ (k : Kind). Spans bs at (number (kindNumber k)) i) same (u .0)) (p .0)) (r .stand);
       }
 
-pub statements-to : (bs : List ℕ) (f s : ℕ) → Bytes bs → (n : ℕ) (ifs : List Bool) (done : List Statement) {at : ℕ} {xs : List Statement} {end : ℕ} → statementsAt n f s bs ifs done at ≡ got xs end → More bs f s n ifs done at xs end
-statements-to bs f s all zero ifs done {at} e =
+pub statements-to : (bs : List ℕ) (f s : ℕ) (n : ℕ) (ifs : List Bool) (done : List Statement) {at : ℕ} {xs : List Statement} {end : ℕ} → statementsAt n f s bs ifs done at ≡ got xs end → More bs f s n ifs done at xs end
+statements-to bs f s zero ifs done {at} e =
     let u = unless (opened ifs) _ _ e in
     carried (More bs f s zero ifs done at) (u .1)
     (record { more = []; whole = sym (append-nil done); many = refl; there = refl; nest = not-from-false (opened ifs) (u .0); stand = spans-none bs at })
-statements-to bs f s all (suc n) ifs done {at} {xs} {end} e =
+statements-to bs f s (suc n) ifs done {at} {xs} {end} e =
     next-case _ _ e λ k i p e.
     next-case _ _ e λ x j q e.
-    one-more bs f s all n ifs done at k x i j p (rest-to bs f s all k q) (statements-to bs f s all n (after k ifs) (done ++ (x ∷ [])) e)
+    one-more bs f s n ifs done at k x i j p (rest-to bs f s k q) (statements-to bs f s n (after k ifs) (done ++ (x ∷ [])) e)
 
 pub statements-from : (bs : List ℕ) (f s : ℕ) → f ≤ 16 → s ≤ 8 → (ifs : List Bool) (done xs : List Statement) {at end : ℕ} → within f s xs ≡ true → nested ifs xs ≡ true → Spans bs at (writtenAll xs) end → statementsAt (length xs) f s bs ifs done at ≡ got (done ++ xs) end
 statements-from bs f s few fewer ifs done [] {at} h n p =
@@ -170,3 +169,7 @@ statements-from bs f s few fewer ifs done (x ∷ xs) {at} {end} h n p =
     (next-from _ (kind-from bs k (b .0)) (cond-true _ _ _ (z .0)))
     (next-from _ (rest-from bs f s few fewer x (b .1) (y .0))
     (statements-from bs f s few fewer (after k ifs) (done ++ (x ∷ [])) xs (y .1) (z .1) (a .1) ∙ ap (λ (l : List Statement). got l end) (append-assoc done (x ∷ []) xs)))
+
+-- the front of a table that holds what was read is well formed
+pub table-sound : (n f s : ℕ) (bs : List ℕ) (at : ℕ) (xs : List Statement) (end : ℕ) → got xs end ≡ statementsAt n f s bs [] [] at → (within f s xs ≡ true) × (nested [] xs ≡ true)
+table-sound n f s bs at xs end e = let r = statements-to bs f s n [] [] (sym e) in (ap (within f s) (r .whole) ∙ r .there, ap (nested []) (r .whole) ∙ r .nest)

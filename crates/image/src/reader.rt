@@ -7,7 +7,8 @@ ghost use lib.ListN.{length};
 ghost use Rattle.std.specs.Vec.{made};
 ghost use Rattle.transaction.specs.Frames.{framesOf, elses};
 ghost use Rattle.transaction.specs.WellFormed.{fits, after};
-ghost use Rattle.image.specs.Reading.{answered, numberAt, withinAt, kindAt, placeAt, targetAt, operandAt, pairAt, restAt, statementsAt, programAt, front, said, imageSays, toldBy};
+ghost use Rattle.image.specs.Reading.{answered, numberAt, withinAt, kindAt, placeAt, targetAt, operandAt, pairAt, restAt, statementsAt, programAt, front, said, toldBy};
+ghost use Rattle.image.specs.Theorem.{Read-exactly};
 use transaction::Kind;
 use transaction::Nest;
 use transaction::Operand;
@@ -250,9 +251,10 @@ impl<'a> Reader<'a> {
     }
 }
 
-// The transaction of an image.
+// The transaction of an image. An image is accepted exactly when it is the written form of a well-formed transaction,
+// and then as that transaction.
 pub fn read_image(image: &[u8]) -> Result<Transaction, ReadFault>
-    ensures { λ r. ⌜ toldBy r ≡ imageSays (now (image .entry)) ⌝ }
+    ensures { λ r. ⌜ Read-exactly (now (image .entry)) (toldBy r) ⌝ }
 {
     let mut reader = Reader::new(image);
     let t = reader.transaction()?;

@@ -23,7 +23,7 @@ returns-then-byte-lt128 c =
     record { bytes = c .loop-k .inv .1; read = sym (c .loop-k .inv .4 ∙ told) }
 
 pub loop-k-again : need.loop-k-again
-loop-k-again c = (c .loop-k .inv .0, c .loop-k .inv .1, omega arith, omega arith, c .loop-k .inv .4 ∙ more _ _ _ _ _ (c .if-at-self .left) (c .loop-k-test .taken) (c .if-byte-lt128 .left) ∙ cc)
+loop-k-again c = (c .loop-k .inv .0, c .loop-k .inv .1, omega arith, omega arith, c .loop-k .inv .4 ∙ more _ _ _ _ _ (c .if-at-self .left) (c .loop-k-test .taken) (c .if-byte-lt128 .left) (omega arith) ∙ cc)
 
 pub returns : need.returns
 returns c = record { bytes = c .loop-k .inv .1; read = sym (c .loop-k .inv .4 ∙ five _ _ _ _ (c .loop-k-test .left)) }
