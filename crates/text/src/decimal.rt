@@ -1,0 +1,45 @@
+// Words in decimal.
+ghost use mathlib.Core.Path.{_≡_};
+ghost use Prim.Native.Nat.{_<_};
+ghost use Rattle.std.specs.Of.Vec.{vec-items};
+ghost use Rattle.text.specs.Decimal.{decimalStep, decimalWords, extended};
+ghost use Rattle.text.specs.Decoding.{Answers};
+use crate::decode::decode;
+use crate::fault::TextFault;
+use crate::notation::Notation;
+use crate::notation::digit;
+use crate::notation::is_blank;
+use crate::step::Step;
+
+impl Notation for u32 as Decimal {
+    ghost stepped = { decimalStep };
+
+    fn step(begun: Option<u32>, byte: u8) -> Step<u32>
+        ensures { λ r. ⌜ r ≡ decimalStep begun byte ⌝ }
+    {
+        match (begun, digit(byte, 10)) {
+            (None, Some(first)) => Step::Onward(Some(u32::from(first))),
+            (Some(number), Some(next)) => extend(number, next),
+            (None, None) if is_blank(byte) => Step::Onward(None),
+            (Some(number), None) if is_blank(byte) => Step::Whole(number),
+            _ => Step::Stuck,
+        }
+    }
+}
+
+// The number with one digit more, which may not pass the top word.
+fn extend(number: u32, next: u8) -> Step<u32>
+    ensures { λ r. ⌜ r ≡ extended number next ⌝ }
+{
+    match u32::try_from(10 * u64::from(number) + u64::from(next)) {
+        Ok(longer) => Step::Onward(Some(longer)),
+        Err(_) => Step::Stuck,
+    }
+}
+
+// The words that the line writes.
+pub fn decode_words(line: &[u8], words: &mut Vec<u32>) -> Result<(), TextFault>
+    ensures { λ r. ⌜ Answers (decimalWords (now (line .entry))) r (vec-items (now (words .exit))) ⌝ }
+{
+    decode(line, words)
+}

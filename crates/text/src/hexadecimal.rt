@@ -1,0 +1,33 @@
+// Bytes in hexadecimal.
+ghost use mathlib.Core.Path.{_≡_};
+ghost use Rattle.std.specs.Of.Vec.{vec-items};
+ghost use Rattle.text.specs.Decoding.{Answers};
+ghost use Rattle.text.specs.Hexadecimal.{hexadecimal, hexStep};
+use crate::decode::decode;
+use crate::fault::TextFault;
+use crate::notation::Notation;
+use crate::notation::digit;
+use crate::notation::is_blank;
+use crate::step::Step;
+
+impl Notation for u8 as Hexadecimal {
+    ghost stepped = { hexStep };
+
+    fn step(begun: Option<u8>, byte: u8) -> Step<u8>
+        ensures { λ r. ⌜ r ≡ hexStep begun byte ⌝ }
+    {
+        match (begun, digit(byte, 16)) {
+            (None, Some(high)) => Step::Onward(Some(high << 4)),
+            (Some(high), Some(low)) => Step::Whole(high | low),
+            (None, None) if is_blank(byte) => Step::Onward(None),
+            _ => Step::Stuck,
+        }
+    }
+}
+
+// The bytes that the line writes.
+pub fn decode_hex(line: &[u8], bytes: &mut Vec<u8>) -> Result<(), TextFault>
+    ensures { λ r. ⌜ Answers (hexadecimal (now (line .entry))) r (vec-items (now (bytes .exit))) ⌝ }
+{
+    decode(line, bytes)
+}
