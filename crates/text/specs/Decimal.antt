@@ -12,7 +12,7 @@ use Rattle.text.specs.Decoding.{Decoded, decoding}
 
 -- a number with one digit more, which may not pass the top word
 abbrev pub extended : ℕ → ℕ → Step ℕ
-extended number next = cond (ltb (10 * number + next) (2 ^ 32)) (Onward (Some (10 * number + next))) Stuck
+extended number next = cond (ltb (number * 10 + next) (2 ^ 32)) (Onward (Some (number * 10 + next))) Stuck
 
 -- a digit begins a number or extends it; a blank stands behind a number, or where none is begun
 abbrev pub decimalStep : Option ℕ → ℕ → Step ℕ

@@ -20,10 +20,11 @@ pub data Decoded (T : Type 0) : Type 0 where
 abbrev pub readFrom : {T : Type 0} → (Option T → ℕ → Step T) → Option T → ℕ → List T → List ℕ → Decoded T
 readFrom step begun column items [] = decoded items
 readFrom step begun column items (b ∷ bs) =
-    elim (step begun b)
-      [ Onward next ↦ readFrom step next (column + 1) items bs
+    elim (step begun b) [
+      | Onward next ↦ readFrom step next (column + 1) items bs
       | Whole item ↦ readFrom step None (column + 1) (items ++ item ∷ []) bs
-      | Stuck ↦ malformed column ]
+      | Stuck ↦ malformed column
+    ]
 
 -- a whole line, after the items given: its end ends an item as a blank does
 abbrev pub reading : {T : Type 0} → (Option T → ℕ → Step T) → List T → List ℕ → Decoded T

@@ -12,7 +12,7 @@ use Rattle.text.specs.Decoding.{Decoded, decoding}
 
 -- a digit begins a byte, sixteen times its value; a second digit completes it; a blank stands only where no byte is begun
 abbrev pub hexStep : Option ℕ → ℕ → Step ℕ
-hexStep None b = elim (digitOf 16 b) [ Some high ↦ Onward (Some (16 * high)) | None ↦ cond (blank b) (Onward None) Stuck ]
+hexStep None b = elim (digitOf 16 b) [ Some high ↦ Onward (Some (high * 16)) | None ↦ cond (blank b) (Onward None) Stuck ]
 hexStep (Some high) b = elim (digitOf 16 b) [ Some low ↦ Whole (bitOr high low) | None ↦ Stuck ]
 
 -- the bytes that a line writes

@@ -4,6 +4,7 @@ ghost use Prim.Native.Nat.{_<_};
 ghost use Rattle.std.specs.Of.Vec.{vec-items};
 ghost use Rattle.text.specs.Decimal.{decimalStep, decimalWords, extended};
 ghost use Rattle.text.specs.Decoding.{Answers};
+ghost use Rattle.text.specs.Theorem.{Decimals-read-back, First-fault, Numerals-read};
 use crate::decode::decode;
 use crate::fault::TextFault;
 use crate::notation::Notation;
@@ -31,7 +32,7 @@ impl Notation for u32 as Decimal {
 fn extend(number: u32, next: u8) -> Step<u32>
     ensures { λ r. ⌜ r ≡ extended number next ⌝ }
 {
-    match u32::try_from(10 * u64::from(number) + u64::from(next)) {
+    match u32::try_from(u64::from(number) * 10 + u64::from(next)) {
         Ok(longer) => Step::Onward(Some(longer)),
         Err(_) => Step::Stuck,
     }
@@ -39,7 +40,10 @@ fn extend(number: u32, next: u8) -> Step<u32>
 
 // The words that the line writes.
 pub fn decode_words(line: &[u8], words: &mut Vec<u32>) -> Result<(), TextFault>
-    ensures { λ r. ⌜ Answers (decimalWords (now (line .entry))) r (vec-items (now (words .exit))) ⌝ }
+    ensures answers { λ r. ⌜ Answers (decimalWords (now (line .entry))) r (vec-items (now (words .exit))) ⌝ }
+    ensures reads_back { λ _. ⌜ Decimals-read-back ⌝ }
+    ensures numerals_read { λ _. ⌜ Numerals-read ⌝ }
+    ensures first_fault { λ _. ⌜ First-fault decimalWords ⌝ }
 {
     decode(line, words)
 }

@@ -3,6 +3,7 @@ ghost use mathlib.Core.Path.{_≡_};
 ghost use Rattle.std.specs.Of.Vec.{vec-items};
 ghost use Rattle.text.specs.Decoding.{Answers};
 ghost use Rattle.text.specs.Hexadecimal.{hexadecimal, hexStep};
+ghost use Rattle.text.specs.Theorem.{First-fault, Hex-reads-back};
 use crate::decode::decode;
 use crate::fault::TextFault;
 use crate::notation::Notation;
@@ -27,7 +28,9 @@ impl Notation for u8 as Hexadecimal {
 
 // The bytes that the line writes.
 pub fn decode_hex(line: &[u8], bytes: &mut Vec<u8>) -> Result<(), TextFault>
-    ensures { λ r. ⌜ Answers (hexadecimal (now (line .entry))) r (vec-items (now (bytes .exit))) ⌝ }
+    ensures answers { λ r. ⌜ Answers (hexadecimal (now (line .entry))) r (vec-items (now (bytes .exit))) ⌝ }
+    ensures reads_back { λ _. ⌜ Hex-reads-back ⌝ }
+    ensures first_fault { λ _. ⌜ First-fault hexadecimal ⌝ }
 {
     decode(line, bytes)
 }

@@ -15,13 +15,14 @@ returns-in-Stuck g c =
 
 pub loop-column-again : need.loop-column-again
 loop-column-again g c =
-    elim (c .match-step .came)
-      [ in-Onward w ↦
+    elim (c .match-step .came) [
+      | in-Onward w ↦
           let now = goes-onward (g .T·Notation .stepped) (c .loop-column .begun) (c .loop-column .column) (vec-items (c .loop-column .items)) (c .args .line .now) _ (c .loop-column .inv) (c .loop-column-test .taken) (w .in-Onward .next) (w .in-Onward .ensures tt) in
           cc (w .begun-is, w .items-is, now)
       | in-Whole·in-Continue-push w ↦
           let now = goes-whole (g .T·Notation .stepped) (c .loop-column .begun) (c .loop-column .column) (vec-items (c .loop-column .items)) (c .args .line .now) _ (c .loop-column .inv) (c .loop-column-test .taken) (w .in-Whole .item) (w .in-Whole .ensures tt) in
-          cc (w .begun-is, w .items-is, w .in-Continue-push .ensures tt .items, now) ]
+          cc (w .begun-is, w .items-is, w .in-Continue-push .ensures tt .items, now)
+    ]
 
 pub returns-in-Onward-step : need.returns-in-Onward-step
 returns-in-Onward-step g c =
