@@ -5,7 +5,7 @@ use mathlib.Core.List.{List, [], _∷_, _++_, map}
 use Prim.Native.Nat.{ℕ, _+_, _/_, _%_, _^_, _<_, _≤_}
 use lib.ListN.{length, take}
 use Rattle.std.specs.Joined.{joined}
-use Rattle.std.specs.Reads.{Numeral, value}
+use Rattle.std.specs.Reads.{Digits, Numeral, value}
 use Rattle.std.specs.Text.{digitChar, upper}
 use Rattle.std.specs.Written.{decimal}
 use Rattle.std.specs.shelf.Lists.{All}
@@ -32,15 +32,19 @@ hexDigit big d = cond big (upper (digitChar d)) (digitChar d)
 abbrev pub hexPair : Bool → ℕ → List ℕ
 hexPair big b = hexDigit big (b / 16) ∷ hexDigit big (b % 16) ∷ []
 
--- a line that writes bytes as two digits each, with any blanks before, between and behind them, is decoded to those bytes
-abbrev pub Hex-reads-back : Type 0
-Hex-reads-back =
-    (big : Bool) (before gap behind bytes : List ℕ)
+-- pairs of digits in a row, in upper or lower case, with any blanks before, between and behind them: each is read as its value
+abbrev pub Pairs-read : Type 0
+Pairs-read =
+    (before gap behind : List ℕ) (pairs : List (List ℕ))
     → blanks before ≡ true
     → blanks gap ≡ true
     → blanks behind ≡ true
-    → All (λ b. b < 2 ^ 8) bytes
-    → hexadecimal (before ++ (spaced gap (map (hexPair big) bytes) ++ behind)) ≡ decoded bytes
+    → All (λ ds. Digits 16 ds × (length ds ≡ 2)) pairs
+    → hexadecimal (before ++ (spaced gap pairs ++ behind)) ≡ decoded (map (value 16) pairs)
+
+-- a line that writes bytes as two digits each, with single spaces or nothing between them, is decoded to those bytes
+abbrev pub Hex-reads-back : Type 0
+Hex-reads-back = (big space : Bool) (bytes : List ℕ) → All (λ b. b < 2 ^ 8) bytes → hexadecimal (spaced (cond space (32 ∷ []) []) (map (hexPair big) bytes)) ≡ decoded bytes
 
 -- numerals in a row, with blanks between them: each is read as its value, leading zeros or not, where that is a word
 abbrev pub Numerals-read : Type 0

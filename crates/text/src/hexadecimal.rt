@@ -3,7 +3,7 @@ ghost use mathlib.Core.Path.{_≡_};
 ghost use Rattle.std.specs.Of.Vec.{vec-items};
 ghost use Rattle.text.specs.Decoding.{Answers};
 ghost use Rattle.text.specs.Hexadecimal.{hexadecimal, hexStep};
-ghost use Rattle.text.specs.Theorem.{First-fault, Hex-reads-back};
+ghost use Rattle.text.specs.Theorem.{First-fault, Hex-reads-back, Pairs-read};
 use crate::decode::decode;
 use crate::fault::TextFault;
 use crate::notation::Notation;
@@ -30,6 +30,7 @@ impl Notation for u8 as Hexadecimal {
 pub fn decode_hex(line: &[u8], bytes: &mut Vec<u8>) -> Result<(), TextFault>
     ensures answers { λ r. ⌜ Answers (hexadecimal (now (line .entry))) r (vec-items (now (bytes .exit))) ⌝ }
     ensures reads_back { λ _. ⌜ Hex-reads-back ⌝ }
+    ensures pairs_read { λ _. ⌜ Pairs-read ⌝ }
     ensures first_fault { λ _. ⌜ First-fault hexadecimal ⌝ }
 {
     decode(line, bytes)
