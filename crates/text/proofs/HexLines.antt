@@ -54,13 +54,13 @@ read-pair (c ∷ e ∷ []) digits two h =
 module _ (gap behind : List ℕ) (blank-gap : blanks gap ≡ true) (blank-behind : blanks behind ≡ true) where
   -- the pairs past the first
   read-more :
-    (items : List ℕ) (pairs : List (List ℕ))
-    → All (λ ds. Digits 16 ds × (length ds ≡ 2)) pairs
-    → Gives hexStep None items (joined (λ next. gap ++ next) pairs ++ (behind ++ 32 ∷ [])) (decoded (items ++ map (value 16) pairs))
+      (items : List ℕ) (pairs : List (List ℕ))
+      → All (λ ds. Digits 16 ds × (length ds ≡ 2)) pairs
+      → Gives hexStep None items (joined (λ next. gap ++ next) pairs ++ (behind ++ 32 ∷ [])) (decoded (items ++ map (value 16) pairs))
   read-more items [] each = rw append-nil (to-end hex-skips behind blank-behind)
   read-more items (ds ∷ pairs) each =
-    let more = read-pair ds (each .0 .0) (each .0 .1) (read-more (items ++ value 16 ds ∷ []) pairs (each .1)) in
-    regrouped (simp append-assoc) (ap decoded (append-assoc items (value 16 ds ∷ []) (map (value 16) pairs))) (past-blanks hex-skips gap blank-gap more)
+      let more = read-pair ds (each .0 .0) (each .0 .1) (read-more (items ++ value 16 ds ∷ []) pairs (each .1)) in
+      regrouped (simp append-assoc) (ap decoded (append-assoc items (value 16 ds ∷ []) (map (value 16) pairs))) (past-blanks hex-skips gap blank-gap more)
 
   read-pairs : (pairs : List (List ℕ)) → All (λ ds. Digits 16 ds × (length ds ≡ 2)) pairs → Gives hexStep None [] (spaced gap pairs ++ (behind ++ 32 ∷ [])) (decoded (map (value 16) pairs))
   read-pairs [] each = to-end hex-skips behind blank-behind

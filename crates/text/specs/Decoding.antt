@@ -34,6 +34,12 @@ reading step items line = readFrom step None 0 items (line ++ 32 ∷ [])
 abbrev pub decoding : {T : Type 0} → (Option T → ℕ → Step T) → List ℕ → Decoded T
 decoding step line = reading step [] line
 
+-- what carrying out the step at a column answers, and what the Vec holds then
+abbrev pub CarriedOut : {T : Type 0} → Step T → ℕ → List T → Result (Option T) TextFault → List T → Type 0
+CarriedOut step column items (Ok begun) found = elim step [ Onward next ↦ (begun ≡ next) × (found ≡ items) | Whole item ↦ (begun ≡ None) × (found ≡ items ++ item ∷ []) | Stuck ↦ ⊥ ]
+CarriedOut step column items (Err (Malformed place)) found = (step ≡ Stuck) × (place ≡ column)
+CarriedOut step column items (Err Memory) found = Unit {0}
+
 -- what a call that adds items answers, and what the Vec holds then
 abbrev pub Adds : {T : Type 0} → Decoded T → Result (Unit {0}) TextFault → List T → Type 0
 Adds d (Ok _) items = d ≡ decoded items

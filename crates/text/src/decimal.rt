@@ -1,6 +1,5 @@
 // Words in decimal.
 ghost use mathlib.Core.Path.{_≡_};
-ghost use Prim.Native.Nat.{_<_};
 ghost use Rattle.std.specs.Of.Vec.{vec-items};
 ghost use Rattle.text.specs.Decimal.{decimalStep, decimalWords, extended};
 ghost use Rattle.text.specs.Decoding.{Answers};
@@ -38,7 +37,8 @@ fn extend(number: u32, next: u8) -> Step<u32>
     }
 }
 
-// The words that the line writes.
+// The words that the line writes in decimal, in place of what the Vec held; at a fault it is left empty.
+// Blanks, which are spaces, tabs and carriage returns, stand between two numbers, and may stand before and behind them.
 pub fn decode_words(line: &[u8], words: &mut Vec<u32>) -> Result<(), TextFault>
     ensures answers { λ r. ⌜ Answers (decimalWords (now (line .entry))) r (vec-items (now (words .exit))) ⌝ }
     ensures reads_back { λ _. ⌜ Decimals-read-back ⌝ }

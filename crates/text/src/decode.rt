@@ -1,10 +1,28 @@
 // A line decoded by any notation.
 ghost use Rattle.std.specs.Of.Vec.{vec-items};
-ghost use Rattle.text.specs.Decoding.{Adds, Answers, decoding, reading};
+ghost use Rattle.text.specs.Decoding.{Adds, Answers, CarriedOut, decoding, reading};
 use crate::fault::FaultFromRefused;
 use crate::fault::TextFault;
 use crate::notation::Notation;
 use crate::step::Step;
+
+// Carries out the step of the byte at a column, and gives what is begun then.
+fn carry_out<T: Copy>(
+    step: Step<T>,
+    column: usize,
+    items: &mut Vec<T>,
+) -> Result<Option<T>, TextFault>
+    ensures { λ r. ⌜ CarriedOut step column (vec-items (now (items .entry))) r (vec-items (now (items .exit))) ⌝ }
+{
+    match step {
+        Step::Onward(begun) => Ok(begun),
+        Step::Whole(item) => {
+            items.push(item)?;
+            Ok(None)
+        }
+        Step::Stuck => Err(TextFault::Malformed(column)),
+    }
+}
 
 // Adds the line's items to the Vec, as far as they can be read.
 fn add_items<T: Notation>(line: &[u8], items: &mut Vec<T>) -> Result<(), TextFault>
@@ -12,24 +30,11 @@ fn add_items<T: Notation>(line: &[u8], items: &mut Vec<T>) -> Result<(), TextFau
 {
     let mut begun = None;
     for (column, byte) in line.iter().enumerate() {
-        match T::step(begun, *byte) {
-            Step::Onward(next) => begun = next,
-            Step::Whole(item) => {
-                items.push(item)?;
-                begun = None;
-            }
-            Step::Stuck => return Err(TextFault::Malformed(column)),
-        }
+        begun = carry_out(T::step(begun, *byte), column, items)?;
     }
-    // An end is to an item what a blank is.
-    match T::step(begun, b' ') {
-        Step::Onward(_) => Ok(()),
-        Step::Whole(item) => {
-            items.push(item)?;
-            Ok(())
-        }
-        Step::Stuck => Err(TextFault::Malformed(line.len())),
-    }
+    // The end of a line is to an item what a blank is.
+    carry_out(T::step(begun, b' '), line.len(), items)?;
+    Ok(())
 }
 
 // Replaces what the Vec holds by the line's items, or by nothing where they are refused.

@@ -26,7 +26,8 @@ impl Notation for u8 as Hexadecimal {
     }
 }
 
-// The bytes that the line writes.
+// The bytes that the line writes, as two digits each, in place of what the Vec held; at a fault it is left empty.
+// The digits are in either case, and blanks, which are spaces, tabs and carriage returns, may stand before, between and behind the pairs.
 pub fn decode_hex(line: &[u8], bytes: &mut Vec<u8>) -> Result<(), TextFault>
     ensures answers { λ r. ⌜ Answers (hexadecimal (now (line .entry))) r (vec-items (now (bytes .exit))) ⌝ }
     ensures reads_back { λ _. ⌜ Hex-reads-back ⌝ }

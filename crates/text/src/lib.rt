@@ -6,6 +6,8 @@ mod hexadecimal;
 mod line;
 mod notation;
 mod step;
+#[cfg(test)]
+mod tests;
 
 pub use decimal::decode_words;
 pub use fault::FaultFromAlloc;

@@ -1,4 +1,4 @@
-// How an item is written in a line.
+// How an item of a line is written: a byte in hexadecimal, a word in decimal.
 ghost use mathlib.Core.Path.{_≡_};
 ghost use Prim.Native.Nat.{ℕ, _≤_};
 ghost use Rattle.std.specs.declared.option.Option.{Option};
