@@ -1,20 +1,24 @@
 -- A run of statements, one turn of a loop after the other. Assumes nothing.
 use mathlib.Core.Path.{_≡_, refl, sym, ap, ap₂, _∙_}
-use mathlib.Core.Bool.{Bool, true, false, _&&_}
+use mathlib.Core.Bool.{Bool, true, false, cond, _&&_}
 use mathlib.Core.List.{List, [], _∷_, reverse}
 use Prim.Native.Nat.{ℕ, _+_, _<_, _≤_}
+use native.Mathlib.Omega.{arith}
+use lib.Dec.{eqb}
 use lib.ListN.{length, drop, take, getD}
-use Rattle.std.proofs.shelf.Tests.{and-parts, cond-true, eq-eqb}
+use Rattle.std.specs.declared.option.Option.the-variants.{None}
+use Rattle.std.proofs.shelf.Tests.{and-parts}
+use Rattle.transaction.specs.Faults.{refusal}
 use Rattle.transaction.specs.declared.frame.Frame.{Frame}
 use Rattle.transaction.specs.declared.frame.Nest.{Nest}
 use Rattle.transaction.specs.declared.statement.Statement.{Statement}
 use Rattle.transaction.specs.Frames.{framesOf, elses}
 use Rattle.transaction.specs.Statements.{kindOf}
 use Rattle.transaction.specs.WellFormed.{Program, fits, after, nested}
-use Rattle.image.specs.Reading.{good}
+use Rattle.image.specs.Reading.{good, bad}
 use Rattle.transaction.proofs.Fronts.{left-at, none-left}
 use Rattle.transaction.proofs.OpenIfs.{one-more}
-use Rattle.meaning.specs.Alone.{lengths}
+use Rattle.meaning.specs.Alone.{refusalIn, sized}
 use Rattle.meaning.specs.Serial.{Values, Context, context, taken, live, nestAfter, step, run}
 use Rattle.meaning.proofs.Branches.{after-elses}
 
@@ -47,6 +51,11 @@ module _ (plus minus : ℕ → ℕ → ℕ) (l : List Statement) (count : ℕ) (
   pub ends : (i : ℕ) → count ≤ i → (h : Context) → Going plus minus (take count l) v i h → h ≡ run plus minus (take count l) (context v [])
   ends i k h g = sym (ap (λ (xs : List Statement). run plus minus xs h) (none-left l count i k)) ∙ g .rest
 
--- buffers of the right lengths let the transaction run
-pub right-lengths : (p : Program) (v : Values) → length (v .fields) ≡ p .fields → length (v .words) ≡ p .states → lengths p v ≡ good p
-right-lengths p v e f = cond-true _ _ _ (eq-eqb (length (v .fields)) (p .fields) e) ∙ cond-true _ _ _ (eq-eqb (length (v .words)) (p .states) f)
+-- buffers that are not refused let the transaction run
+pub admits : (p : Program) (f w : ℕ) → None ≡ refusalIn (sized p f w) → sized p f w ≡ good p
+admits p f w e = go (eqb f (p .fields)) (eqb w (p .states)) e
+  where
+    go : (t u : Bool) → None ≡ refusalIn (cond t (cond u (good p) (bad (refusal 11 w))) (bad (refusal 11 f))) → cond t (cond u (good p) (bad (refusal 11 w))) (bad (refusal 11 f)) ≡ good p
+    go true true e = refl
+    go true false e = absurd (let z : _≡_ {A = ℕ} 0 1 = cc in omega arith)
+    go false u e = absurd (let z : _≡_ {A = ℕ} 0 1 = cc in omega arith)

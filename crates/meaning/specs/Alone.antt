@@ -40,12 +40,12 @@ abbrev pub refusedAlone : Result (Unit {0}) AloneFault → Option Refusal
 refusedAlone (Ok u) = None
 refusedAlone (Err f) = Some (aloneRefusal f)
 
--- the fields' length is looked at before the states'
+-- buffers of f fields and w words: the fields' length is looked at before the states'
+abbrev pub sized : Program → ℕ → ℕ → Answer Program
+sized p f w = cond (eqb f (p .fields)) (cond (eqb w (p .states)) (good p) (bad (refusal 11 w))) (bad (refusal 11 f))
+
 abbrev pub lengths : Program → Values → Answer Program
-lengths p v =
-    cond (eqb (length (v .fields)) (p .fields))
-    (cond (eqb (length (v .words)) (p .states)) (good p) (bad (refusal 11 (length (v .words)))))
-    (bad (refusal 11 (length (v .fields))))
+lengths p v = sized p (length (v .fields)) (length (v .words))
 
 -- the image is looked at before the lengths
 abbrev pub admitted : Answer Program → Values → Answer Program
