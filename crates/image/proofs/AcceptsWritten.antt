@@ -80,7 +80,7 @@ module _ (bs : List ℕ) where
       subst (λ (xs : List Statement). Written-well (record { fields = f; states = s; statements = xs }) end) (sym (m .whole)) (
         well-to (record { some-fields = f-at .1; few-fields = f-at .2; few-states = s-at .2; few = few; there = m .there; nest = m .nest }),
         spans-whole bs _ end h parts,
-     )
+      )
 
   program-to : {p : Program} {end : ℕ} → programAt bs 0 ≡ got p end → Written-well p end
   program-to e =

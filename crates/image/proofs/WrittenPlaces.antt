@@ -101,7 +101,7 @@ placed-from f s (AtState k) few fewer h =
           ∙ cond-true _ _ _ (and-from _ _ (le-leb 16 (16 + k) (omega arith)) (and-from _ _ (lt-ltb (16 + k) 24 (omega arith)) there))
           ∙ ap (λ (x : ℕ). Some (AtState x)) same,
       omega arith,
-   )
+    )
 placed-from f s AtConstant few fewer h = (refl, omega arith)
 
 module _ (bs : List ℕ) (f s : ℕ) where

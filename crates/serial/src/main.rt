@@ -18,6 +18,7 @@ use text::decode_hex;
 use text::decode_words;
 use text::line_end;
 use transaction::Refusal;
+use transaction::RefusalDisplay;
 use transaction::Transaction;
 use word::Arithmetic;
 use word::Clamp;
@@ -41,12 +42,6 @@ fn write_words(out: &mut BufWriter<Stdout>, name: &str, words: &[u32]) -> io::Re
     Ok(())
 }
 
-fn write_refusal(out: &mut BufWriter<Stdout>, refusal: Refusal) -> io::Result<()> {
-    let number = refusal.number;
-    let place = refusal.place;
-    writeln!(out, "refused {number} {place}")
-}
-
 // Answers the line of the image.
 fn load(heap: Global, line: &[u8], out: &mut BufWriter<Stdout>) -> Result<Image, AnyError> {
     let mut bytes = Vec::new(heap);
@@ -63,12 +58,15 @@ fn load(heap: Global, line: &[u8], out: &mut BufWriter<Stdout>) -> Result<Image,
             let fields = t.fields;
             let states = t.states;
             let count = t.count;
-            writeln!(out, "image fields {fields} states {states} statements {count}")?;
+            writeln!(
+                out,
+                "image fields {fields} states {states} statements {count}"
+            )?;
             Ok(Image::Ready(t))
         }
         Err(fault) => {
             let refusal = fault.refusal();
-            write_refusal(out, refusal)?;
+            writeln!(out, "{refusal}")?;
             Ok(Image::Refused(refusal))
         }
     }
@@ -87,7 +85,10 @@ fn serve<M: Arithmetic>(
             write_words(out, " words", words)?;
             writeln!(out, "")
         }
-        Err(fault) => write_refusal(out, fault.refusal()),
+        Err(fault) => {
+            let refusal = fault.refusal();
+            writeln!(out, "{refusal}")
+        }
     }
 }
 
@@ -109,7 +110,7 @@ fn answer<M: Arithmetic>(
     }
     match image {
         Image::Ready(t) => serve::<M>(t, fields, words, out)?,
-        Image::Refused(refusal) => write_refusal(out, *refusal)?,
+        Image::Refused(refusal) => writeln!(out, "{refusal}")?,
         Image::Malformed => writeln!(out, "no image")?,
     }
     Ok(())
@@ -123,7 +124,11 @@ fn zeroed(heap: Global, image: &Image) -> Result<Vec<u32>, AllocError> {
     }
 }
 
-fn session<M: Arithmetic>(heap: Global, input: &[u8], out: &mut BufWriter<Stdout>) -> Result<(), AnyError> {
+fn session<M: Arithmetic>(
+    heap: Global,
+    input: &[u8],
+    out: &mut BufWriter<Stdout>,
+) -> Result<(), AnyError> {
     let first = line_end(input, 0);
     let image = load(heap, &input[0..first], out)?;
     let mut words = zeroed(heap, &image)?;
