@@ -1,7 +1,7 @@
 // The open ifs.
 ghost use mathlib.Core.Path.{_≡_};
 ghost use mathlib.Core.Bool.{true, false, cond};
-ghost use mathlib.Core.List.{[]};
+ghost use mathlib.Core.List.{[], _∷_};
 ghost use Prim.Native.Nat.{_+_, _-_, _<_};
 ghost use lib.Dec.{ltb};
 ghost use lib.ListN.{length, set};
@@ -72,6 +72,7 @@ impl<C: Copy> Nest<C> {
     pub fn open_if(&mut self, on: C) -> bool
         ensures answer { λ r. ⌜ r ≡ ltb (length (elses (framesOf (now (self .entry))))) 3 ⌝ }
         ensures frames { λ r. ⌜ framesOf (now (self .exit)) ≡ cond r (begun on (framesOf (now (self .entry)))) (framesOf (now (self .entry))) ⌝ }
+        ensures elses { λ r. ⌜ elses (framesOf (now (self .exit))) ≡ cond r (false ∷ elses (framesOf (now (self .entry)))) (elses (framesOf (now (self .entry)))) ⌝ }
     {
         if self.depth >= 3 {
             return false;
