@@ -1,4 +1,9 @@
+pub mod AcceptsWritten
+pub mod GoodReads
 pub mod Numbers
-pub mod Soundness
+pub mod Spans
 pub mod Steps
 pub mod Tables
+pub mod WrittenNumbers
+pub mod WrittenPlaces
+pub mod WrittenStatements

@@ -45,11 +45,11 @@ next (refused r at) f = refused r at
 abbrev pub ending : ℕ → Bool → ℕ → ℕ → Read ℕ
 ending start padded v at = cond (padded || ltb 4294967295 v) (refused (refusal 3 start) start) (got v at)
 
--- the number that began at start, where its first k groups of seven bits came to v
+-- the number that began at start, where its first k groups of seven bits came to v; at most five bytes hold it
 abbrev pub groups : ℕ → ℕ → ℕ → List ℕ → Read ℕ
 groups start k v [] = refused (refusal 3 start) start
 groups start k v (b ∷ bs) =
-    cond (ltb k 5)
+    cond (ltb k 5 && ltb b 256)
     (cond (ltb b 128) (ending start (eqb b 0 && ltb 0 k) (v + b * 2 ^ (7 * k)) (start + k + 1)) (groups start (k + 1) (v + (b - 128) * 2 ^ (7 * k)) bs))
     (refused (refusal 3 start) start)
 

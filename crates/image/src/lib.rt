@@ -1,6 +1,7 @@
 // The image of a transaction, read.
-ghost use Rattle.image.specs.Theorem.{Accepts-written};
-
 mod reader;
+mod theorem;
 
 pub use reader::Reader;
+pub use reader::read_image;
+pub use theorem::accepts_written;

@@ -1,13 +1,15 @@
 // A reader over borrowed image bytes that remembers its offset.
 ghost use mathlib.Core.Path.{_≡_};
-ghost use mathlib.Core.Bool.{cond};
+ghost use mathlib.Core.Bool.{cond, _&&_};
 ghost use mathlib.Core.List.{[]};
-ghost use Prim.Native.Nat.{ℕ, _*_, _^_, _<_, _≤_};
+ghost use Prim.Native.Nat.{ℕ, _+_, _*_, _^_, _<_, _≤_};
+ghost use lib.Dec.{eqb, ltb};
 ghost use lib.ListN.{length};
 ghost use Rattle.std.specs.Vec.{made};
 ghost use Rattle.transaction.specs.Frames.{framesOf, elses};
 ghost use Rattle.transaction.specs.WellFormed.{fits, after};
-ghost use Rattle.image.specs.Reading.{answered, numberAt, withinAt, kindAt, placeAt, targetAt, operandAt, pairAt, restAt, statementsAt, programAt, front, said, imageSays, toldBy};
+ghost use Rattle.image.specs.Reading.{answered, ending, numberAt, withinAt, kindAt, placeAt, targetAt, operandAt, pairAt, restAt, statementsAt, programAt, front, said, imageSays, toldBy};
+ghost use Rattle.image.specs.Theorem.{Read-exactly};
 use transaction::Kind;
 use transaction::Nest;
 use transaction::Operand;
@@ -54,6 +56,21 @@ impl<'a> Reader<'a> {
         Reader { bytes, offset: 0 }
     }
 
+    // The number that starts here and ends before `end`: its last group is `byte`, the k-th, and those before came to `value`.
+    fn finish(&mut self, byte: u8, k: u32, value: u64, end: usize) -> Result<u32, ReadFault>
+        requires { ⌜ byte < 128 ⌝ ∗ ⌜ k < 5 ⌝ ∗ ⌜ value ≤ k * 2 ^ 35 ⌝ }
+        ensures bytes { λ _. ⌜ now (now (self .exit) .bytes) ≡ now (now (self .entry) .bytes) ⌝ }
+        ensures read { λ r. ⌜ answered r (now (self .exit) .offset) ≡ ending (now (self .entry) .offset) (eqb byte 0 && ltb 0 k) (value + byte * 2 ^ (7 * k)) end ⌝ }
+    {
+        let whole = value + weighed(byte, k);
+        let padded = byte == 0 && k > 0;
+        if padded || whole > 0xffff_ffff {
+            return Err(ReadFault::Malformed(self.offset));
+        }
+        self.offset = end;
+        Ok(whole as u32)
+    }
+
     // The number that starts here; where it is refused, the reader stays.
     pub fn number(&mut self) -> Result<u32, ReadFault>
         ensures bytes { λ _. ⌜ now (now (self .exit) .bytes) ≡ now (now (self .entry) .bytes) ⌝ }
@@ -68,15 +85,7 @@ impl<'a> Reader<'a> {
             let byte = self.bytes[at];
             at += 1;
             if byte < 128 {
-                if byte == 0 && k > 0 {
-                    return Err(ReadFault::Malformed(self.offset));
-                }
-                let whole = value + weighed(byte, k);
-                if whole > 0xffff_ffff {
-                    return Err(ReadFault::Malformed(self.offset));
-                }
-                self.offset = at;
-                return Ok(whole as u32);
+                return self.finish(byte, k, value, at);
             }
             value += weighed(byte - 128, k);
         }
@@ -250,8 +259,15 @@ impl<'a> Reader<'a> {
     }
 }
 
-// The transaction of an image.
+// The transaction of an image. An image is accepted exactly when it is the written form of a well-formed transaction,
+// and then as that transaction.
 pub fn read_image(image: &[u8]) -> Result<Transaction, ReadFault>
+    ensures { λ r. ⌜ Read-exactly (now (image .entry)) (toldBy r) ⌝ }
+{
+    read_all(image)
+}
+
+fn read_all(image: &[u8]) -> Result<Transaction, ReadFault>
     ensures { λ r. ⌜ toldBy r ≡ imageSays (now (image .entry)) ⌝ }
 {
     let mut reader = Reader::new(image);

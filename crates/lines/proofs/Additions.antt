@@ -8,12 +8,12 @@ use Rattle.std.proofs.shelf.Tests.{and-parts}
 use Rattle.transaction.specs.declared.statement.Statement.{Statement}
 use Rattle.transaction.specs.declared.statement.Statement.the-variants.{Copy, Add, Sub, Less, Equal, Choose, If, Else, End}
 use Rattle.transaction.specs.declared.frame.Frame.{Frame}
+use Rattle.transaction.proofs.Fronts.{left-at}
 use Rattle.transaction.specs.Statements.{kindOf}
 use Rattle.transaction.specs.Frames.{elses}
 use Rattle.transaction.specs.WellFormed.{fits, after, nested}
 use Rattle.lines.specs.declared.line.Source.{Source}
 use Rattle.lines.specs.Build.{Draft, draft, adds}
-use Rattle.lines.proofs.Loops.{left-at}
 
 -- the open ifs after a statement, by what well-formedness keeps of them
 adds-elses : (x : Statement) (d : Draft) → elses (adds x d .nest) ≡ after (kindOf x) (elses (d .nest))

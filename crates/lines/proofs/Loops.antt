@@ -5,19 +5,11 @@ use mathlib.Core.List.{List, [], _∷_, _++_, map}
 use Prim.Native.Nat.{ℕ, zero, suc, _+_, _<_, _≤_}
 use native.Mathlib.Nat.{add-zero, zero-add}
 use native.Mathlib.Omega.{arith}
-use lib.ListN.{length, drop, take, getD, set, length-take}
-use lib.Seq.{getD-take, take-all}
-use Rattle.std.proofs.shelf.Lists.{drop-more, drop-all, take-more-set, map-more, length-map}
+use lib.ListN.{length, drop, take, getD, set}
+use lib.Seq.{take-all}
+use Rattle.std.proofs.shelf.Lists.{take-more-set, map-more}
+use Rattle.transaction.proofs.Fronts.{left-at, none-left}
 use Rattle.lines.specs.Named.{upFrom}
-
--- the first n of a list
-module _ {A : Type 0} (l : List A) (n i : ℕ) where
-  -- what a turn meets, and what is left
-  pub left-at : (d : A) → i < length l → i < n → drop i (take n l) ≡ getD l i d ∷ drop (i + 1) (take n l)
-  left-at d h k = drop-more (take n l) i d (omega (arith, length-take n l)) ∙ ap (λ (x : A). x ∷ drop (i + 1) (take n l)) (getD-take n l i d k)
-
-  pub none-left : n ≤ i → drop i (take n l) ≡ []
-  none-left h = drop-all i (take n l) (omega (arith, length-take n l))
 
 -- F goes over a list, and does f at each
 module _ {A X : Type 0} (F : List A → X → X) (f : A → X → X) (l : List A) (n i : ℕ) where

@@ -12,11 +12,11 @@ use Rattle.transaction.specs.declared.statement.Operand.the-variants.{Field, St
 use Rattle.transaction.specs.declared.statement.Target.{Target}
 use Rattle.transaction.specs.declared.statement.Target.the-variants.{Field as ToField, State as ToState}
 use Rattle.transaction.specs.declared.statement.Statement.the-variants.{Copy, Add, Sub, Less, Equal, Choose, If, Else, End}
+use Rattle.transaction.proofs.Fronts.{left-at}
 use Rattle.transaction.specs.Statements.{targetOperand}
 use Rattle.transaction.specs.WellFormed.{has, hasTarget, hasAll, within}
 use Rattle.transaction.specs.declared.statement.Statement.{Statement}
 use Rattle.lines.specs.Named.{isState, names, someNames}
-use Rattle.lines.proofs.Loops.{left-at}
 
 module _ (s : ℕ) (l : List Statement) (n i : ℕ) (d : Statement) (room : i < length l) (within : i < n) where
   pub named-here : true ≡ names s (getD l i d) → true ≡ someNames s (drop i (take n l))

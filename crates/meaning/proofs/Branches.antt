@@ -36,7 +36,7 @@ and-false true c e = e
 and-false false c e = refl
 
 -- the open ifs after a statement, by what well-formedness keeps of them
-after-elses : (x : Statement) (v : Values) (l : List (Frame Bool)) → elses (nestAfter x v l) ≡ after (kindOf x) (elses l)
+pub after-elses : (x : Statement) (v : Values) (l : List (Frame Bool)) → elses (nestAfter x v l) ≡ after (kindOf x) (elses l)
 after-elses (Copy t a) v l = refl
 after-elses (Add t a b) v l = refl
 after-elses (Sub t a b) v l = refl

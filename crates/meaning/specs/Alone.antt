@@ -4,6 +4,8 @@ use mathlib.Core.List.{List}
 use Prim.Native.Nat.{ℕ}
 use lib.Dec.{eqb}
 use lib.ListN.{length}
+use Rattle.std.specs.declared.option.Option.{Option}
+use Rattle.std.specs.declared.option.Option.the-variants.{Some, None}
 use Rattle.std.specs.declared.result.Result.{Result}
 use Rattle.std.specs.declared.result.Result.the-variants.{Ok, Err}
 use Rattle.transaction.specs.declared.refusal.Refusal.{Refusal}
@@ -16,6 +18,11 @@ use Rattle.meaning.specs.declared.fault.AloneFault.{AloneFault}
 use Rattle.meaning.specs.declared.fault.AloneFault.the-variants.{Image, Length}
 use Rattle.meaning.specs.Serial.{Values, alone}
 
+-- why there was a refusal, if there was one
+abbrev pub refusalIn : {A : Type 0} → Answer A → Option Refusal
+refusalIn (good a) = None
+refusalIn (bad r) = Some r
+
 -- a buffer's wrong length
 abbrev pub lengthRefusal : LengthFault → Refusal
 lengthRefusal (Fields n) = refusal 11 n
@@ -25,12 +32,20 @@ abbrev pub aloneRefusal : AloneFault → Refusal
 aloneRefusal (Image f) = readRefusal f
 aloneRefusal (Length f) = lengthRefusal f
 
--- the fields' length is looked at before the states'
+abbrev pub refusedRun : Result (Unit {0}) LengthFault → Option Refusal
+refusedRun (Ok u) = None
+refusedRun (Err f) = Some (lengthRefusal f)
+
+abbrev pub refusedAlone : Result (Unit {0}) AloneFault → Option Refusal
+refusedAlone (Ok u) = None
+refusedAlone (Err f) = Some (aloneRefusal f)
+
+-- buffers of f fields and w words: the fields' length is looked at before the states'
+abbrev pub sized : Program → ℕ → ℕ → Answer Program
+sized p f w = cond (eqb f (p .fields)) (cond (eqb w (p .states)) (good p) (bad (refusal 11 w))) (bad (refusal 11 f))
+
 abbrev pub lengths : Program → Values → Answer Program
-lengths p v =
-    cond (eqb (length (v .fields)) (p .fields))
-    (cond (eqb (length (v .words)) (p .states)) (good p) (bad (refusal 11 (length (v .words)))))
-    (bad (refusal 11 (length (v .fields))))
+lengths p v = sized p (length (v .fields)) (length (v .words))
 
 -- the image is looked at before the lengths
 abbrev pub admitted : Answer Program → Values → Answer Program

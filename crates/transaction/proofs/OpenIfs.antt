@@ -1,5 +1,5 @@
 -- The open ifs at the front of a table. Assumes nothing.
-use mathlib.Core.Path.{_≡_, refl, sym, ap, _∙_}
+use mathlib.Core.Path.{_≡_, refl, sym, ap, ap₂, _∙_}
 use mathlib.Core.Bool.{Bool, true, false, not}
 use mathlib.Core.List.{List, [], _∷_, _++_, reverse}
 use Prim.Native.Nat.{ℕ, suc, _+_, _-_, _<_, _≤_}
@@ -10,7 +10,8 @@ use lib.Seq.{length-take-le}
 use Rattle.std.proofs.shelf.Lists.{take-more, take-more-set, reverse-append, length-reverse}
 use Rattle.std.proofs.shelf.Tests.{lt-ltb, le-ltb}
 use Rattle.transaction.specs.declared.frame.Frame.{Frame}
-use Rattle.transaction.specs.Frames.{begun, turned, outer, elses}
+use Rattle.transaction.specs.declared.frame.Nest.{Nest}
+use Rattle.transaction.specs.Frames.{framesOf, begun, turned, outer, elses}
 use Rattle.transaction.specs.WellFormed.{opened, awaits}
 
 module _ {A : Type 0} (l : List A) (d : ℕ) where
@@ -21,7 +22,7 @@ module _ {A : Type 0} (l : List A) (d : ℕ) where
   pub how-many : d ≤ length l → length (reverse (take d l)) ≡ d
   how-many h = length-reverse (take d l) ∙ length-take-le d l h
 
-  one-more : (z : A) → d < length l → reverse (take (d + 1) l) ≡ getD l d z ∷ reverse (take d l)
+  pub one-more : (z : A) → d < length l → reverse (take (d + 1) l) ≡ getD l d z ∷ reverse (take d l)
   one-more z h = ap reverse (take-more l d z h) ∙ reverse-append (take d l) (getD l d z ∷ [])
 
 module _ {A : Type 0} (l : List A) (d : ℕ) (z : A) (some : 0 < d) (room : d ≤ length l) where
@@ -65,3 +66,7 @@ module _ {C : Type 0} (l : List (Frame C)) (d : ℕ) where
 pub closed-one : {C : Type 0} (l : List (Frame C)) (d : ℕ) → 0 < d → d ≤ length l → (true ≡ opened (elses (reverse (take d l)))) × (reverse (take (d - 1) l) ≡ outer (reverse (take d l)))
 closed-one [] d some room = absurd (omega arith)
 closed-one (z ∷ l) d some room = (is-open (z ∷ l) d z some room, closes (z ∷ l) d z some room)
+
+-- what a table holds whose parts are known
+pub held-by : {C : Type 0} (n : Nest C) (d : ℕ) (l : List (Frame C)) → n .depth ≡ d → n .frames ≡ l → framesOf n ≡ reverse (take d l)
+held-by n d l e f = ap₂ (λ (k : ℕ) (m : List (Frame _)). reverse (take k m)) e f

@@ -11,6 +11,7 @@ pub use frame::Frame;
 pub use frame::Nest;
 pub use refusal::Refusal;
 pub use refusal::RefusalDebug;
+pub use refusal::RefusalDisplay;
 pub use refusal::RefusalEq;
 pub use refusal::RefusalPartialEq;
 pub use statement::Kind;

@@ -1,7 +1,7 @@
 use mathlib.Core.Path.{_≡_, sym, ap, _∙_}
 use native.Mathlib.Omega.{arith}
+use Rattle.transaction.proofs.Fronts.{none-left}
 use Rattle.lines.specs.Named.{someNames}
-use Rattle.lines.proofs.Loops.{none-left}
 use Rattle.lines.proofs.Naming.{named-here, not-here}
 use Rattle.lines.proofs.named.is_named.Needs as need
 

@@ -1,11 +1,16 @@
-use mathlib.Core.Path.{refl}
+use mathlib.Core.Path.{refl, ap, _∙_}
 use native.Mathlib.Omega.{arith}
-use Rattle.transaction.proofs.OpenIfs.{may-open, too-deep, opens}
+use lib.ListN.{set}
+use Rattle.transaction.specs.Frames.{elses}
+use Rattle.transaction.proofs.OpenIfs.{may-open, too-deep, opens, held-by}
 use Rattle.transaction.proofs.frame.Nest.open_if.Needs as need
 
-pub returns-then-d-ge3 : need.returns-then-d-ge3
-returns-then-d-ge3 g c = record { answer = too-deep (c .args .self .now .frames) (c .args .self .now .depth) (omega arith) (omega arith); frames = refl }
+pub returns-then-self-ge3 : need.returns-then-self-ge3
+returns-then-self-ge3 g c = record { answer = too-deep (c .args .self .now .frames) (c .args .self .now .depth) (omega arith) (omega arith); frames = refl; elses = refl }
 
 pub returns : need.returns
 returns g c =
-    record { answer = may-open (c .args .self .now .frames) (c .args .self .now .depth) (omega arith) (omega arith); frames = opens (c .args .self .now .frames) (c .args .self .now .depth) (c .args .on) (omega arith) }
+    let l = c .args .self .now .frames in
+    let d = c .args .self .now .depth in
+    let held = held-by (c .push .last .self) _ _ (c .push .ensures .depth) (c .push .ensures .frames ∙ ap (set l d) (c .new .ensures)) ∙ opens l d (c .args .on) (omega arith) in
+    record { answer = may-open l d (omega arith) (omega arith); frames = held; elses = ap elses held }
