@@ -1,6 +1,6 @@
 -- A builder that has made all lines holds the definition's list. Assumes nothing.
-use mathlib.Core.Path.{_≡_, refl, sym, ap, ap₂, subst, _∙_}
-use mathlib.Core.Bool.{Bool, true, false, _||_}
+use mathlib.Core.Path.{_≡_, refl, sym, ap, ap₂, _∙_}
+use mathlib.Core.Bool.{Bool, true, false}
 use mathlib.Core.List.{List, [], _∷_, _++_}
 use mathlib.Core.Logic.{_⊎_, inl, inr}
 use Prim.Native.Nat.{ℕ, zero, suc, _+_, _-_, _<_, _≤_}
@@ -13,7 +13,6 @@ use Rattle.std.proofs.shelf.Tests.{both-ways, cases-lt, or-cases, or-left, or-r
 use Rattle.transaction.specs.declared.statement.Statement.{Statement}
 use Rattle.transaction.specs.declared.statement.Statement.the-variants.{End}
 use Rattle.lines.specs.declared.line.Line.{Line}
-use Rattle.lines.specs.declared.line.Source.{Source}
 use Rattle.lines.specs.declared.builder.Builder.{Builder}
 use Rattle.lines.specs.declared.lines.Lines.{Lines}
 use Rattle.lines.specs.Named.{names, someNames, upFrom, namedOf, amount}

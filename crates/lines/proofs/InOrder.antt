@@ -1,19 +1,19 @@
 -- Where the lines of a table stand: what its ghost fields come to. Assumes nothing.
-use mathlib.Core.Path.{_≡_, refl, sym, ap, ap₂, subst, _∙_}
-use mathlib.Core.Bool.{Bool, true, false}
-use mathlib.Core.List.{List, [], _∷_, _++_, map}
-use Prim.Native.Nat.{ℕ, _+_, _-_, _<_, _≤_}
+use mathlib.Core.Path.{_≡_, sym, ap, ap₂, _∙_}
+use mathlib.Core.Bool.{true, false}
+use mathlib.Core.List.{List, [], _++_}
+use Prim.Native.Nat.{ℕ, _+_, _-_, _<_}
 use native.Mathlib.Nat.{add-zero, zero-add}
 use native.Mathlib.Omega.{arith}
-use lib.ListN.{getD, length, take, drop, take-append-drop}
+use lib.ListN.{getD, length, take, take-append-drop}
 use lib.Seq.{length-take-le}
 use Rattle.std.proofs.shelf.Lists.{getD-take}
 use Rattle.lines.specs.declared.line.Line.{Line}
 use Rattle.lines.specs.declared.line.Line.the-variants.{Read, Write}
 use Rattle.lines.specs.declared.line.Source.the-variants.{Constant as Fixed}
 use Rattle.lines.specs.declared.lines.Lines.{Lines}
-use Rattle.lines.specs.Named.{statesFrom, amount}
-use Rattle.lines.specs.Build.{readLines, writeLine, writeLines, numbered}
+use Rattle.lines.specs.Named.{amount}
+use Rattle.lines.specs.Build.{writeLine, numbered}
 use Rattle.lines.specs.Layout.{readsLine}
 use Rattle.lines.specs.Exact.{firstWrite, In-order}
 use Rattle.lines.proofs.Places.{number-in, number-moved, number-at}

@@ -1,31 +1,31 @@
 -- Lines leave what the statements leave. Assumes nothing.
-use mathlib.Core.Path.{_≡_, refl, sym, ap, ap₂, subst, _∙_}
+use mathlib.Core.Path.{_≡_, refl, sym, ap, ap₂, _∙_}
 use mathlib.Core.Bool.{Bool, true, false, cond}
-use mathlib.Core.List.{List, [], _∷_, _++_, map}
+use mathlib.Core.List.{List, [], _∷_, map}
 use mathlib.Core.Logic.{_⊎_, inl, inr}
-use Prim.Native.Nat.{ℕ, zero, suc, _+_, _-_, _<_, _≤_}
+use Prim.Native.Nat.{ℕ, zero, suc, _-_, _<_, _≤_}
 use native.Mathlib.Omega.{arith}
 use lib.ListN.{getD, length, take}
 use lib.Seq.{length-take-le, ext-getD}
 use Rattle.std.proofs.shelf.Lists.{length-map, getD-map, getD-take}
 use Rattle.std.proofs.shelf.Tests.{cases-bool, cond-true, cond-false}
 use Rattle.transaction.specs.declared.statement.Operand.{Operand}
-use Rattle.transaction.specs.declared.statement.Operand.the-variants.{Field, State, Constant}
+use Rattle.transaction.specs.declared.statement.Operand.the-variants.{Field, State}
 use Rattle.transaction.specs.declared.statement.Statement.{Statement}
 use Rattle.transaction.specs.declared.transaction.Transaction.{Transaction}
 use Rattle.transaction.specs.Programs.{statementsOf}
 use Rattle.transaction.specs.WellFormed.{within}
-use Rattle.meaning.specs.Serial.{Values, Context, values, context, operandIn, alone, run}
+use Rattle.meaning.specs.Serial.{Values, values, context, alone, run}
 use Rattle.lines.specs.declared.line.Source.{Source}
 use Rattle.lines.specs.declared.line.Source.the-variants.{Constant as Fixed}
 use Rattle.lines.specs.declared.line.Line.{Line}
-use Rattle.lines.specs.declared.line.Line.the-variants.{Read, Write}
+use Rattle.lines.specs.declared.line.Line.the-variants.{Read}
 use Rattle.lines.specs.declared.lines.Lines.{Lines}
-use Rattle.lines.specs.Named.{someNames, namedOf}
-use Rattle.lines.specs.Build.{Draft, sourceOf, start, bodyOf, linesOf, finalsOf, updatesOf, writeLines, numbered}
-use Rattle.lines.specs.Work.{valueOf, makes, worked}
+use Rattle.lines.specs.Named.{namedOf}
+use Rattle.lines.specs.Build.{sourceOf, start, bodyOf, updatesOf, writeLines, numbered}
+use Rattle.lines.specs.Work.{valueOf, makes}
 use Rattle.lines.specs.Exact.{Exactly, Named-there, In-order}
-use Rattle.lines.specs.Meaning.{wordsLeft, workedOut, linesLeave, Means, Keeps-meaning}
+use Rattle.lines.specs.Meaning.{wordsLeft, workedOut, Means, Keeps-meaning}
 use Rattle.lines.proofs.Working.{is, stays-all, satisfied}
 use Rattle.lines.proofs.Finish.{mark, marked-named, named-long}
 use Rattle.lines.proofs.InOrder.{in-order}

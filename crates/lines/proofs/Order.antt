@@ -1,9 +1,9 @@
 -- The lines of the statements follow the read lines, and each reads only lower lines. Assumes nothing.
-use mathlib.Core.Path.{_≡_, refl, sym, ap, subst, _∙_}
-use mathlib.Core.Bool.{Bool, true, false, cond}
-use mathlib.Core.List.{List, [], _∷_, _++_, map, append-assoc}
+use mathlib.Core.Path.{_≡_, refl, sym, ap, _∙_}
+use mathlib.Core.Bool.{true, false, cond}
+use mathlib.Core.List.{List, [], _∷_, _++_, append-assoc}
 use Prim.Native.Nat.{ℕ, zero, suc, _+_, _-_, _<_, _≤_}
-use native.Mathlib.Nat.{add-zero, zero-add}
+use native.Mathlib.Nat.{add-zero}
 use native.Mathlib.Omega.{arith}
 use lib.ListN.{getD, set, length}
 use Rattle.std.specs.shelf.Lists.{All}
@@ -17,12 +17,12 @@ use Rattle.transaction.specs.declared.statement.Statement.{Statement}
 use Rattle.transaction.specs.declared.statement.Statement.the-variants.{Copy, Add, Sub, Less, Equal, Choose, If, Else, End}
 use Rattle.transaction.specs.declared.frame.Frame.{Frame}
 use Rattle.transaction.specs.Statements.{targetOperand}
-use Rattle.transaction.specs.Frames.{begun, turned, outer}
+use Rattle.transaction.specs.Frames.{turned, outer}
 use Rattle.lines.specs.declared.line.Source.{Source}
-use Rattle.lines.specs.declared.line.Source.the-variants.{Field as Incoming, Line as Made, Constant as Fixed}
+use Rattle.lines.specs.declared.line.Source.the-variants.{Constant as Fixed}
 use Rattle.lines.specs.declared.line.Line.{Line}
-use Rattle.lines.specs.declared.line.Line.the-variants.{Read, Copy as L-Copy, Add as L-Add, Sub as L-Sub, Less as L-Less, Equal as L-Equal, Choose as L-Choose, Write}
-use Rattle.lines.specs.Build.{Latest, Draft, latest, draft, sourceOf, renewed, last, chooseFor, guarded, settled, assigned, nesting, adds, addsAll}
+use Rattle.lines.specs.declared.line.Line.the-variants.{Copy as L-Copy, Add as L-Add, Sub as L-Sub, Less as L-Less, Equal as L-Equal, Choose as L-Choose}
+use Rattle.lines.specs.Build.{Latest, Draft, latest, sourceOf, renewed, last, chooseFor, guarded, assigned, nesting, adds, addsAll}
 use Rattle.lines.specs.Layout.{sourcesOf, isPlain, Ordered}
 use Rattle.lines.proofs.Sources.{Under, under-up, ordered-push}
 

@@ -1,23 +1,20 @@
 -- The numbers of read lines and of write lines. Assumes nothing.
-use mathlib.Core.Path.{_≡_, refl, sym, ap, subst, _∙_}
+use mathlib.Core.Path.{_≡_, refl, sym, ap, _∙_}
 use mathlib.Core.Bool.{Bool, true, false}
 use mathlib.Core.List.{List, [], _∷_, _++_, map, append-assoc, append-nil}
 use Prim.Native.Nat.{ℕ, zero, suc, _+_, _-_, _<_, _≤_}
 use native.Mathlib.Nat.{add-zero, zero-add}
 use native.Mathlib.Omega.{arith}
 use lib.ListN.{getD, length}
-use Rattle.std.specs.shelf.Lists.{All}
 use Rattle.std.proofs.shelf.Lists.{length-push, getD-push, getD-append-left, getD-map}
 use Rattle.std.proofs.shelf.Tests.{both-ways}
 use Rattle.transaction.specs.declared.statement.Operand.{Operand}
 use Rattle.transaction.specs.declared.statement.Operand.the-variants.{Field, State, Constant}
-use Rattle.lines.specs.declared.line.Source.{Source}
 use Rattle.lines.specs.declared.line.Source.the-variants.{Field as Incoming, Line as Made, Constant as Fixed}
-use Rattle.lines.specs.declared.line.Line.{Line}
 use Rattle.lines.specs.declared.line.Line.the-variants.{Read}
 use Rattle.lines.specs.Named.{upFrom, statesFrom, amount}
 use Rattle.lines.specs.Build.{sourceOf, readLines, firsts, start, numbered}
-use Rattle.lines.specs.Layout.{readsLine, Ordered}
+use Rattle.lines.specs.Layout.{readsLine}
 use Rattle.lines.proofs.Loops.{up-at, up-long}
 use Rattle.lines.proofs.Sources.{Under, under-up}
 use Rattle.lines.proofs.Order.{Low}

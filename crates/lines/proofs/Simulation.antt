@@ -3,7 +3,7 @@ use mathlib.Core.Path.{_≡_, refl, sym, ap, ap₂, subst, _∙_}
 use mathlib.Core.Bool.{Bool, true, false, cond, not, _&&_, _||_}
 use mathlib.Core.List.{List, [], _∷_, _++_}
 use mathlib.Core.Logic.{_⊎_, inl, inr}
-use Prim.Native.Nat.{ℕ, zero, suc, _+_, _-_, _<_, _≤_}
+use Prim.Native.Nat.{ℕ, _+_, _-_, _<_, _≤_}
 use native.Mathlib.Nat.{zero-add}
 use native.Mathlib.Omega.{arith}
 use lib.ListN.{getD, set, length, length-set}
@@ -21,23 +21,22 @@ use Rattle.transaction.specs.declared.statement.Statement.{Statement}
 use Rattle.transaction.specs.declared.statement.Statement.the-variants.{Copy, Add, Sub, Less, Equal, Choose, If, Else, End}
 use Rattle.transaction.specs.declared.frame.Frame.{Frame}
 use Rattle.transaction.specs.Statements.{targetOperand}
-use Rattle.transaction.specs.Frames.{begun, turned, outer}
+use Rattle.transaction.specs.Frames.{turned, outer}
 use Rattle.transaction.specs.WellFormed.{has, hasTarget, hasAll, within}
 use Rattle.meaning.specs.Serial as serial
 use Rattle.meaning.specs.Serial.{Values, Context, values, context, operandIn, stored, taken, live, step, run}
 use Rattle.lines.specs.declared.line.Source.{Source}
-use Rattle.lines.specs.declared.line.Source.the-variants.{Field as Incoming, Line as Made, Constant as Fixed}
+use Rattle.lines.specs.declared.line.Source.the-variants.{Line as Made, Constant as Fixed}
 use Rattle.lines.specs.declared.line.Line.{Line}
-use Rattle.lines.specs.declared.line.Line.the-variants.{Read, Copy as L-Copy, Add as L-Add, Sub as L-Sub, Less as L-Less, Equal as L-Equal, Choose as L-Choose, Write}
+use Rattle.lines.specs.declared.line.Line.the-variants.{Read, Copy as L-Copy, Add as L-Add, Sub as L-Sub, Less as L-Less, Equal as L-Equal, Choose as L-Choose}
 use Rattle.lines.specs.Named.{isState, names, someNames}
 use Rattle.lines.specs.Build.{Latest, Draft, sourceOf, renewed, last, chooseFor, guarded, assigned, nesting, adds, addsAll, readLines, start, numbered}
 use Rattle.lines.specs.Layout.{sourcesOf, isPlain}
 use Rattle.lines.specs.Work.{valueOf, makes, worked}
 use Rattle.lines.proofs.Sources.{Under, under-up}
-use Rattle.lines.proofs.Order.{Conditions-under, conditions-up, Low, longer, up-one, assigned-low, adds-low}
+use Rattle.lines.proofs.Order.{Conditions-under, conditions-up, Low, up-one, assigned-low, adds-low}
 use Rattle.lines.proofs.Working.{is, stays, new-is, satisfied}
-use Rattle.lines.proofs.Places.{first-is, number-in, number-at, reads-long, firsts-long, incoming-at, start-low, mapped-long}
-use Rattle.lines.proofs.Loops.{up-long}
+use Rattle.lines.proofs.Places.{first-is, number-in, number-at, reads-long, firsts-long, incoming-at, start-low}
 
 -- a table of sources and the values that it stands for, after both are written
 table-set : (val : Source → ℕ) (t : List Source) (ns : List ℕ) (i j : ℕ) (y : Source) (x : ℕ) → i < length t → i < length ns → val y ≡ x → val (getD t j (Fixed 0)) ≡ getD ns j 0 → val (getD (set t i y) j (Fixed 0)) ≡ getD (set ns i x) j 0

@@ -1,25 +1,21 @@
 -- A transaction's lines in a table: read lines first, write lines last, and what they read. Assumes nothing.
 use mathlib.Core.Path.{_≡_, refl, sym, ap, subst, _∙_}
-use mathlib.Core.Bool.{Bool, true, false}
+use mathlib.Core.Bool.{Bool, true}
 use mathlib.Core.List.{List, [], _∷_, _++_, map, append-assoc, append-nil}
-use mathlib.Core.Logic.{_⊎_, inl, inr}
-use Prim.Native.Nat.{ℕ, zero, suc, _+_, _-_, _<_, _≤_}
-use native.Mathlib.Nat.{add-zero, zero-add}
+use Prim.Native.Nat.{ℕ, _+_, _-_, _<_, _≤_}
 use native.Mathlib.Omega.{arith}
 use lib.ListN.{getD, length, take, drop}
 use Rattle.std.specs.shelf.Lists.{All}
 use Rattle.std.proofs.shelf.Lists.{length-append, length-push, getD-append-left, getD-append-right, getD-take, take-take, take-at, drop-at}
-use Rattle.std.proofs.shelf.Elements.{all-weaker, all-getD, all-from-getD, all-append}
-use Rattle.transaction.specs.declared.statement.Operand.{Operand}
-use Rattle.transaction.specs.declared.statement.Operand.the-variants.{Field, State, Constant}
+use Rattle.std.proofs.shelf.Elements.{all-getD, all-from-getD, all-append}
+use Rattle.transaction.specs.declared.statement.Operand.the-variants.{Field, State}
 use Rattle.transaction.specs.declared.statement.Statement.{Statement}
 use Rattle.lines.specs.declared.line.Source.{Source}
-use Rattle.lines.specs.declared.line.Source.the-variants.{Constant as Fixed}
 use Rattle.lines.specs.declared.line.Line.{Line}
 use Rattle.lines.specs.declared.line.Line.the-variants.{Read}
 use Rattle.lines.specs.Named.{namedOf, statesFrom, amount}
-use Rattle.lines.specs.Build.{Draft, sourceOf, readLines, writeLine, writeLines, start, bodyOf, linesOf, finalsOf, updatesOf, numbered}
-use Rattle.lines.specs.Layout.{sourcesOf, isPlain, readsLine, Ordered, Reads-below, Below, Plain}
+use Rattle.lines.specs.Build.{Draft, readLines, writeLine, writeLines, start, bodyOf, linesOf, finalsOf, updatesOf}
+use Rattle.lines.specs.Layout.{sourcesOf, isPlain, Ordered, Reads-below, Below, Plain}
 use Rattle.lines.proofs.Sources.{Under, under-is, all-up, all-from, all-is, ordered-push}
 use Rattle.lines.proofs.Order.{Low, all-low}
 use Rattle.lines.proofs.Places.{states-long, mapped-long, reads-long, start-low}

@@ -1,8 +1,7 @@
 -- The values of lines, worked out one after another. Assumes nothing.
 use mathlib.Core.Path.{_≡_, refl, sym, ap, ap₂, subst, _∙_}
-use mathlib.Core.Bool.{true}
 use mathlib.Core.List.{List, [], _∷_, _++_, append-assoc, append-nil}
-use Prim.Native.Nat.{ℕ, zero, suc, _+_, _-_, _<_, _≤_}
+use Prim.Native.Nat.{ℕ, zero, suc, _+_, _-_, _<_}
 use native.Mathlib.Nat.{add-zero, zero-add}
 use native.Mathlib.Omega.{arith}
 use lib.ListN.{getD, length, take, set}
@@ -14,7 +13,7 @@ use Rattle.lines.specs.declared.line.Source.{Source}
 use Rattle.lines.specs.declared.line.Source.the-variants.{Field as Incoming, Line as Made, Constant as Fixed}
 use Rattle.lines.specs.declared.line.Line.{Line}
 use Rattle.lines.specs.declared.line.Line.the-variants.{Read, Copy, Add, Sub, Less, Equal, Choose, Write}
-use Rattle.lines.specs.Layout.{sourcesOf, readsLine, Ordered}
+use Rattle.lines.specs.Layout.{sourcesOf, Ordered}
 use Rattle.lines.specs.Work.{valueOf, makes, workedOn, worked, Satisfied}
 use Rattle.lines.proofs.Sources.{Under, all-from}
 

@@ -2,15 +2,12 @@
 use mathlib.Core.Path.{_≡_}
 use mathlib.Core.Bool.{true, false}
 use mathlib.Core.List.{List, [], _∷_}
-use Prim.Native.Nat.{ℕ}
 use lib.ListN.{length, take, getD}
 use Rattle.transaction.specs.declared.statement.Operand.the-variants.{Field, State, Constant}
 use Rattle.transaction.specs.declared.statement.Target.the-variants.{Field as ToField, State as ToState}
 use Rattle.transaction.specs.declared.statement.Statement.{Statement}
-use Rattle.transaction.specs.declared.statement.Statement.the-variants.{Copy, Add, Sub, Less, Equal, Choose, If, Else, End}
-use Rattle.lines.specs.declared.line.Source.{Source}
+use Rattle.transaction.specs.declared.statement.Statement.the-variants.{Copy, Add, Sub, Less, Equal, If, Else, End}
 use Rattle.lines.specs.declared.line.Source.the-variants.{Field as Incoming, Line as Made, Constant as Fixed}
-use Rattle.lines.specs.declared.line.Line.{Line}
 use Rattle.lines.specs.declared.line.Line.the-variants.{Read, Copy as L-Copy, Add as L-Add, Sub as L-Sub, Less as L-Less, Equal as L-Equal, Choose as L-Choose, Write}
 use Rattle.lines.specs.Named.{namedOf}
 use Rattle.lines.specs.Build.{bodyOf, linesOf, finalsOf, numbered}

@@ -1,9 +1,9 @@
 // Turns statements into lines.
 ghost use mathlib.Core.Path.{_≡_};
 ghost use mathlib.Core.Bool.{true};
-ghost use mathlib.Core.List.{[], _∷_, _++_, map};
+ghost use mathlib.Core.List.{[], _++_, map};
 ghost use Prim.Native.Nat.{_+_, _<_, _≤_};
-ghost use lib.ListN.{length, take};
+ghost use lib.ListN.{take};
 ghost use Rattle.transaction.specs.Frames.{framesOf, elses};
 ghost use Rattle.transaction.specs.Programs.{statementsOf};
 ghost use Rattle.transaction.specs.Statements.{kindOf};

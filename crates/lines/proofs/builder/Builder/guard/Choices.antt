@@ -1,6 +1,6 @@
 use mathlib.Core.Path.{_≡_}
 use mathlib.Core.List.{reverse}
-use Prim.Native.Nat.{_+_, _<_, _≤_}
+use Prim.Native.Nat.{_+_, _<_}
 use lib.ListN.{take}
 use Rattle.transaction.specs.Frames.{framesOf}
 use Rattle.lines.specs.Build.{guarded}
