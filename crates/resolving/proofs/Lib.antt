@@ -1,0 +1,4 @@
+pub mod Before
+pub mod Tables
+pub mod Rules
+pub mod Keeps
