@@ -14,7 +14,7 @@ use Rattle.resolving.specs.declared.leaf.Operation.{Operation}
 use Rattle.resolving.specs.declared.leaf.Operation.the-variants.{Set, Add as ToAdd, Subtract}
 use Rattle.resolving.specs.declared.leaf.Predicate.{Predicate}
 use Rattle.resolving.specs.declared.leaf.Predicate.the-variants.{True, Less as IsLess, Equal as IsEqual}
-use Rattle.resolving.specs.declared.matching.Fork.{Fork}
+use Rattle.resolving.specs.declared.fork.Fork.{Fork}
 use Rattle.resolving.specs.Codelets.{innerLine}
 use Rattle.resolving.specs.Leaves.{isOld, isLeaf, isOther, leafOf}
 use Rattle.resolving.specs.Resolving.{found, table, resolvedTo}

@@ -2,6 +2,7 @@
 mod codelet;
 mod decided;
 mod deciding;
+mod fork;
 mod leaf;
 mod matching;
 mod packet;
@@ -10,10 +11,10 @@ mod source;
 
 pub use codelet::Codelet;
 pub use decided::Decided;
+pub use fork::Fork;
 pub use leaf::Leaf;
 pub use leaf::Operation;
 pub use leaf::Predicate;
-pub use matching::Fork;
 pub use packet::Packet;
 pub use resolved::Resolved;
 pub use source::are_same;
