@@ -60,8 +60,8 @@ module _ (cod : Codelet) (d : Decided) (P : Source → Type 0) (inner : (n : ℕ
       ⊎-elim
       (λ (same : m ≡ length t). subst P (sym (getD-push t y (Made m) m (sym same))) (e (subst (λ i. P (Made i)) same h)))
       (⊎-elim
-        (λ (below : m < length t). subst P (sym (getD-append-left t (y ∷ []) (Made m) m below)) (k m h))
-        (λ (above : length t < m). subst P (sym (getD-past (t ++ (y ∷ [])) m (Made m) (omega (arith, length-push t y)))) h))
+      (λ (below : m < length t). subst P (sym (getD-append-left t (y ∷ []) (Made m) m below)) (k m h))
+      (λ (above : length t < m). subst P (sym (getD-past (t ++ (y ∷ [])) m (Made m) (omega (arith, length-push t y)))) h))
       (cases-order m (length t))
 
   table-reaches : (n : ℕ) → Reaching (table cod d n)

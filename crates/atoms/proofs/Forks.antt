@@ -154,8 +154,10 @@ module _ (plus minus : ℕ → ℕ → ℕ) (n : ℕ) (ran : List ℕ → ℕ �
       let good = fork-picks plus minus cod d old all packet sat holds (carries .inner) u f is in
       let x = value all (f .condition) in
       let go : (b : Bool) → truth x ≡ b → cond b (ran (take n (drop 5 s)) old packet) (ran (take n (drop (5 + n) s)) old packet) ≡ cond b (value all (f .first)) (value all (f .second)) =
-        elim [ true ↦ λ h. ap (λ (part : List ℕ). ran part old packet) e₁ ∙ first old all packet word words sat (decide-holds all d (f .condition) true h holds) (record { written = good .first; inner = carries .inner })
-             | false ↦ λ h. ap (λ (part : List ℕ). ran part old packet) e₂ ∙ second old all packet word words sat (decide-holds all d (f .condition) false h holds) (record { written = good .second; inner = carries .inner }) ] in
+      elim [
+        | true ↦ λ h. ap (λ (part : List ℕ). ran part old packet) e₁ ∙ first old all packet word words sat (decide-holds all d (f .condition) true h holds) (record { written = good .first; inner = carries .inner })
+        | false ↦ λ h. ap (λ (part : List ℕ). ran part old packet) e₂ ∙ second old all packet word words sat (decide-holds all d (f .condition) false h holds) (record { written = good .second; inner = carries .inner })
+      ] in
       ap (λ q. cond (holdsAt q old packet) (ran (take n (drop 5 s)) old packet) (ran (take n (drop (5 + n) s)) old packet)) p
       ∙ ap (λ b. cond b (ran (take n (drop 5 s)) old packet) (ran (take n (drop (5 + n) s)) old packet)) (good .tests)
       ∙ go (truth x) refl

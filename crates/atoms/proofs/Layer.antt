@@ -87,8 +87,8 @@ module _ (plus minus : ℕ → ℕ → ℕ) (n : ℕ) (takes : Codelet → Decid
         record {
           answer = sym (choice-takes cod d takes u (Some f) refused is ∙ taken);
           right = fork-fitted plus minus n ran cod d u f xs ys zs is roomy w₁ w₂ p
-            (first (part-room 5 xs (omega (arith, roomy)) ((5 + n) - 5) (omega arith)))
-            (second (part-room (5 + n) one (omega arith) ((5 + 2 * n) - (5 + n)) (omega arith)));
+              (first (part-room 5 xs (omega (arith, roomy)) ((5 + n) - 5) (omega arith)))
+              (second (part-room (5 + n) one (omega arith) ((5 + 2 * n) - (5 + n)) (omega arith)));
           short = λ e. absurd (both-ways _ e has);
           rest = second-rest one zs n roomy₁ w₂ (choiceLength n) (omega (arith, room .whole)) ∙ first-rest xs ys n roomy w₁ (choiceLength n) (omega (arith, room .whole)) ∙ head-rest;
         }

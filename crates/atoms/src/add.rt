@@ -34,7 +34,13 @@ pub impl<M: Arithmetic> Atom for Add<M> as AddAtom {
         }
     }
 
-    fn fit(&self, codelet: &Codelet, decided: &Decided, update: Source, buffer: &mut [u32]) -> bool {
+    fn fit(
+        &self,
+        codelet: &Codelet,
+        decided: &Decided,
+        update: Source,
+        buffer: &mut [u32],
+    ) -> bool {
         match codelet.operation(decided, update) {
             Some(Operation::Set(v)) => {
                 write_operation(Operation::Set(v), buffer);

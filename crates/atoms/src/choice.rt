@@ -51,7 +51,13 @@ pub impl<A: Atom> Atom for Choice<A> as ChoiceAtom {
         }
     }
 
-    fn fit(&self, codelet: &Codelet, decided: &Decided, update: Source, buffer: &mut [u32]) -> bool {
+    fn fit(
+        &self,
+        codelet: &Codelet,
+        decided: &Decided,
+        update: Source,
+        buffer: &mut [u32],
+    ) -> bool {
         if !has_room(self.length(), buffer) {
             return self.class(codelet, decided, update);
         }
@@ -70,7 +76,8 @@ pub impl<A: Atom> Atom for Choice<A> as ChoiceAtom {
                 let no = decided.with(f.condition, false);
                 write_predicate(f.predicate, buffer);
                 self.0.fit(codelet, &yes, f.first, &mut buffer[5..5 + n]);
-                self.0.fit(codelet, &no, f.second, &mut buffer[5 + n..5 + 2 * n]);
+                self.0
+                    .fit(codelet, &no, f.second, &mut buffer[5 + n..5 + 2 * n]);
                 true
             }
             None => false,

@@ -31,7 +31,13 @@ pub impl<M: Arithmetic> Atom for ReadWrite<M> as ReadWriteAtom {
         codelet.is_leaf(codelet.resolve(decided).of(update))
     }
 
-    fn fit(&self, codelet: &Codelet, decided: &Decided, update: Source, buffer: &mut [u32]) -> bool {
+    fn fit(
+        &self,
+        codelet: &Codelet,
+        decided: &Decided,
+        update: Source,
+        buffer: &mut [u32],
+    ) -> bool {
         match codelet.operation(decided, update) {
             Some(Operation::Set(v)) => {
                 write_operation(Operation::Set(v), buffer);
@@ -42,7 +48,9 @@ pub impl<M: Arithmetic> Atom for ReadWrite<M> as ReadWriteAtom {
     }
 
     fn run(&self, setting: &[u32], old: u32, packet: &Packet) -> u32 {
-        let (Operation::Set(v) | Operation::Add(v) | Operation::Subtract(v)) = read_operation(setting);
+        let (Operation::Set(v) | Operation::Add(v) | Operation::Subtract(v)) = read_operation(
+            setting,
+        );
         v.value(old, packet)
     }
 }

@@ -34,7 +34,13 @@ pub impl<M: Arithmetic> Atom for Subtract<M> as SubtractAtom {
         }
     }
 
-    fn fit(&self, codelet: &Codelet, decided: &Decided, update: Source, buffer: &mut [u32]) -> bool {
+    fn fit(
+        &self,
+        codelet: &Codelet,
+        decided: &Decided,
+        update: Source,
+        buffer: &mut [u32],
+    ) -> bool {
         match codelet.operation(decided, update) {
             Some(operation) => {
                 write_operation(operation, buffer);

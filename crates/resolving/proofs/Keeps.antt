@@ -37,8 +37,8 @@ push-keeps p t y k e m =
     ⊎-elim
     (λ (same : m ≡ length t). ap (value p) (getD-push t y (Made m) m (sym same)) ∙ e ∙ ap (λ i. getD (p .lines) i 0) (sym same))
     (⊎-elim
-      (λ (below : m < length t). ap (value p) (getD-append-left t (y ∷ []) (Made m) m below) ∙ k m)
-      (λ (above : length t < m). ap (value p) (getD-past (t ++ (y ∷ [])) m (Made m) (omega (arith, length-push t y)))))
+    (λ (below : m < length t). ap (value p) (getD-append-left t (y ∷ []) (Made m) m below) ∙ k m)
+    (λ (above : length t < m). ap (value p) (getD-past (t ++ (y ∷ [])) m (Made m) (omega (arith, length-push t y)))))
     (cases-order m (length t))
 
 -- a decided condition picks the arm that has the value
@@ -58,7 +58,7 @@ module _ (cod : Codelet) (d : Decided) (plus minus : ℕ → ℕ → ℕ) (old :
   through-keeps t k n (Choose c a b) e =
       let x = value p (found t c) in
       let e′ : getD (p .lines) n 0 ≡ cond (truth x) (value p (found t a)) (value p (found t b)) =
-        e ∙ sym (rw (found-keeps p t k a, found-keeps p t k b, found-keeps p t k c) refl) in
+      e ∙ sym (rw (found-keeps p t k a, found-keeps p t k b, found-keeps p t k c) refl) in
       arm-keeps p (decidedAs d (found t c)) (found t a) (found t b) (Made n) x (getD (p .lines) n 0) (holds (found t c)) e′ refl
   through-keeps t k n (Write q a) e = refl
 

@@ -32,12 +32,12 @@ returns-then-class g c =
     let has : hasRoom (choiceLength n) buffer ≡ true = ap (λ m. hasRoom m buffer) (sym (c .length .ensures)) ∙ sym (c .has-room .ensures) ∙ c .if-not-has-room .left in
     let taken : takes cod d u ≡ true = sym (c .if-class .ensures tt) in
     let wrote : Fitted plus minus n takes ran cod d u buffer has (putMid 5 ((5 + n) - 5) xs ys) =
-      below-wrote plus minus n takes ran cod d u buffer has xs (c .write-predicate .kept .buffer) (c .write-predicate .ensures .rest) ys
-      (c .fit .kept .buffer ∙ ap (λ k. length (take ((5 + k) - 5) (drop 5 xs))) (c .length-n .ensures))
-      (c .write-predicate .ensures .written) taken
-      (λ h. c .fit .ensures .right (c .fit .ensures .answer ∙ taken) (ap (λ k. hasRoom n (take ((5 + k) - 5) (drop 5 xs))) (c .length-n .ensures) ∙ h)) in
+    below-wrote plus minus n takes ran cod d u buffer has xs (c .write-predicate .kept .buffer) (c .write-predicate .ensures .rest) ys
+    (c .fit .kept .buffer ∙ ap (λ k. length (take ((5 + k) - 5) (drop 5 xs))) (c .length-n .ensures))
+    (c .write-predicate .ensures .written) taken
+    (λ h. c .fit .ensures .right (c .fit .ensures .answer ∙ taken) (ap (λ k. hasRoom n (take ((5 + k) - 5) (drop 5 xs))) (c .length-n .ensures) ∙ h)) in
     let fitted : Fitted plus minus n takes ran cod d u buffer has (putMid 5 ((5 + c .length-n .result) - 5) xs ys) =
-      subst (λ k. Fitted plus minus n takes ran cod d u buffer has (putMid 5 ((5 + k) - 5) xs ys)) (sym (c .length-n .ensures)) wrote in
+    subst (λ k. Fitted plus minus n takes ran cod d u buffer has (putMid 5 ((5 + k) - 5) xs ys)) (sym (c .length-n .ensures)) wrote in
     record {
       answer = fitted .answer;
       right = λ _ _. fitted .right;
@@ -69,17 +69,17 @@ returns-else-not-takes-arms g c =
     let taken : armsTaken takes cod d f ≡ true = sym (c .takes-arms .ensures) ∙ c .if-not-takes-arms .left in
     let t = and-parts _ _ taken in
     let wrote : Fitted plus minus n takes ran cod d u buffer has (putMid (5 + n) ((5 + 2 * n) - (5 + n)) (putMid 5 ((5 + n) - 5) xs ys) zs) =
-      fork-wrote plus minus n takes ran cod d u buffer has xs (c .write-predicate-in-Some .kept .buffer) (c .write-predicate-in-Some .ensures .rest) f ys zs
-      (sym (c .if-class .ensures tt)) (sym (c .in-Some .ensures tt)) (c .write-predicate-in-Some .ensures .written)
-      (c .fit-in-Some .kept .buffer ∙ ap (λ m. length (take ((5 + m) - 5) (drop 5 xs))) same)
-      (c .fit-in-Some-2 .kept .buffer ∙ ap (λ m. length (take ((5 + 2 * m) - (5 + m)) (drop (5 + m) (putMid 5 ((5 + m) - 5) xs ys)))) same)
-      taken
-      (λ h. subst (λ (e : Decided). Right plus minus ran cod e (f .first) ys) yes-is
-        (c .fit-in-Some .ensures .right (c .fit-in-Some .ensures .answer ∙ ap (λ (e : Decided). takes cod e (f .first)) yes-is ∙ t .0) (ap (λ m. hasRoom n (take ((5 + m) - 5) (drop 5 xs))) same ∙ h)))
-      (λ h. subst (λ (e : Decided). Right plus minus ran cod e (f .second) zs) no-is
-        (c .fit-in-Some-2 .ensures .right (c .fit-in-Some-2 .ensures .answer ∙ ap (λ (e : Decided). takes cod e (f .second)) no-is ∙ t .1) (ap (λ m. hasRoom n (take ((5 + 2 * m) - (5 + m)) (drop (5 + m) (putMid 5 ((5 + m) - 5) xs ys)))) same ∙ h))) in
+    fork-wrote plus minus n takes ran cod d u buffer has xs (c .write-predicate-in-Some .kept .buffer) (c .write-predicate-in-Some .ensures .rest) f ys zs
+    (sym (c .if-class .ensures tt)) (sym (c .in-Some .ensures tt)) (c .write-predicate-in-Some .ensures .written)
+    (c .fit-in-Some .kept .buffer ∙ ap (λ m. length (take ((5 + m) - 5) (drop 5 xs))) same)
+    (c .fit-in-Some-2 .kept .buffer ∙ ap (λ m. length (take ((5 + 2 * m) - (5 + m)) (drop (5 + m) (putMid 5 ((5 + m) - 5) xs ys)))) same)
+    taken
+    (λ h. subst (λ (e : Decided). Right plus minus ran cod e (f .first) ys) yes-is
+    (c .fit-in-Some .ensures .right (c .fit-in-Some .ensures .answer ∙ ap (λ (e : Decided). takes cod e (f .first)) yes-is ∙ t .0) (ap (λ m. hasRoom n (take ((5 + m) - 5) (drop 5 xs))) same ∙ h)))
+    (λ h. subst (λ (e : Decided). Right plus minus ran cod e (f .second) zs) no-is
+    (c .fit-in-Some-2 .ensures .right (c .fit-in-Some-2 .ensures .answer ∙ ap (λ (e : Decided). takes cod e (f .second)) no-is ∙ t .1) (ap (λ m. hasRoom n (take ((5 + 2 * m) - (5 + m)) (drop (5 + m) (putMid 5 ((5 + m) - 5) xs ys)))) same ∙ h))) in
     let fitted : Fitted plus minus n takes ran cod d u buffer has (putMid (5 + k) ((5 + 2 * k) - (5 + k)) (putMid 5 ((5 + k) - 5) xs ys) zs) =
-      subst (λ m. Fitted plus minus n takes ran cod d u buffer has (putMid (5 + m) ((5 + 2 * m) - (5 + m)) (putMid 5 ((5 + m) - 5) xs ys) zs)) (sym same) wrote in
+    subst (λ m. Fitted plus minus n takes ran cod d u buffer has (putMid (5 + m) ((5 + 2 * m) - (5 + m)) (putMid 5 ((5 + m) - 5) xs ys) zs)) (sym same) wrote in
     record {
       answer = fitted .answer;
       right = λ _ _. fitted .right;

@@ -28,7 +28,7 @@ loop-n-again c =
     let front : take (n - 0) all ≡ table cod d n = ap (λ k. take k all) (sub-zero n) ∙ c .loop-n .inv .1 in
     let made : one ≡ resolvedLine cod d (table cod d n) n = c .resolve-line-source .ensures ∙ ap (λ t. resolvedLine cod d t n) front in
     let pushed : take n all ++ (one ∷ []) ≡ table cod d n ++ (resolvedLine cod d (table cod d n) n ∷ []) =
-      ap (λ t. t ++ (one ∷ [])) (c .loop-n .inv .1) ∙ ap (λ x. table cod d n ++ (x ∷ [])) made in
+    ap (λ t. t ++ (one ∷ [])) (c .loop-n .inv .1) ∙ ap (λ x. table cod d n ++ (x ∷ [])) made in
     (length-set all n one ∙ c .loop-n .inv .0, take-more-set all n one below ∙ pushed ∙ sym (ap (table cod d) (add-one n)))
 
 pub returns : need.returns
