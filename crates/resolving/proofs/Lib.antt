@@ -1,4 +1,6 @@
 pub mod Before
-pub mod Tables
-pub mod Rules
 pub mod Keeps
+pub mod Only
+pub mod Rules
+pub mod Tables
+pub mod Undecided

@@ -21,7 +21,7 @@ use Rattle.resolving.proofs.Tables.{found-before, inner-entry, outside-entry}
 
 module _ (cod : Codelet) (d : Decided) where
   -- an inner line reads lower lines
-  lower : (n : ℕ) (l : Line) → isInner cod n ≡ true → lineAt cod n ≡ l → areBefore n (readBy l) ≡ true
+  pub lower : (n : ℕ) (l : Line) → isInner cod n ≡ true → lineAt cod n ≡ l → areBefore n (readBy l) ≡ true
   lower n l i e =
       let z : 0 + n ≡ n = omega arith in
       subst (λ m. areBefore m (readBy l) ≡ true) z (ap (λ k. areBefore (0 + n) (readBy k)) (sym e) ∙ lower-at 0 (cod .lines) (cod .inner) n (cod .lower) i)

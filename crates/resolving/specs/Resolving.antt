@@ -14,9 +14,10 @@ use Rattle.resolving.specs.declared.codelet.Codelet.{Codelet}
 use Rattle.resolving.specs.declared.decided.Decided.{Decided}
 use Rattle.resolving.specs.declared.packet.Packet.{Packet}
 use Rattle.resolving.specs.Codelets.{lineAt, isInner, value, Satisfies}
+use Rattle.resolving.specs.Reads.{isBefore}
 use Rattle.resolving.specs.Sameness.{decidedAs, Holds}
 
--- THE RULES. They leave f no choice, since an inner line reads only lines before it.
+-- THE RULES
 -- lines at which resolving always stops
 abbrev pub isEnd : Line → Bool
 isEnd (Read s) = true
@@ -40,6 +41,10 @@ pub record Resolves (cod : Codelet) (d : Decided) (f : Source → Source) : Type
   pub first : (n : ℕ) (c a b : Source) → n < 208 → isInner cod n ≡ true → lineAt cod n ≡ Choose c a b → decidedAs d (f c) ≡ Some true → f (Made n) ≡ f a
   pub second : (n : ℕ) (c a b : Source) → n < 208 → isInner cod n ≡ true → lineAt cod n ≡ Choose c a b → decidedAs d (f c) ≡ Some false → f (Made n) ≡ f b
   pub undecided : (n : ℕ) (c a b : Source) → n < 208 → isInner cod n ≡ true → lineAt cod n ≡ Choose c a b → decidedAs d (f c) ≡ None → f (Made n) ≡ Made n
+
+-- every function that obeys the rules is f, at all sources that a transaction can have
+abbrev pub Only : Codelet → Decided → (Source → Source) → Type 0
+Only cod d f = (g : Source → Source) → Resolves cod d g → (a : Source) → isBefore 208 a ≡ true → g a ≡ f a
 
 -- where the decided conditions hold, f changes no value
 abbrev pub KeepsValues : Codelet → Decided → (Source → Source) → Type 0

@@ -59,3 +59,7 @@ Agrees (Some b) v = truth v ≡ b
 -- the decided conditions hold
 abbrev pub Holds : Decided → Packet → Type 0
 Holds d p = (c : Source) → Agrees (decidedAs d c) (value p c)
+
+-- whatever the values are, no decided condition fails
+abbrev pub HoldsOfAll : Decided → Type 0
+HoldsOfAll d = (p : Packet) → Holds d p

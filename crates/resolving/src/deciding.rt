@@ -1,7 +1,7 @@
 // Deciding conditions, and asking which are decided.
 ghost use mathlib.Core.Path.{_≡_};
 ghost use mathlib.Core.Bool.{true};
-ghost use Rattle.resolving.specs.Sameness.{decidedAs, undecided, decide, isOpen, Decides};
+ghost use Rattle.resolving.specs.Sameness.{decidedAs, undecided, decide, isOpen, Decides, HoldsOfAll};
 use crate::decided::Decided;
 use lines::Source;
 use word::at;
@@ -11,7 +11,8 @@ use word::put;
 impl Decided {
     // No condition is decided.
     pub fn none() -> Decided
-        ensures { λ r. ⌜ r ≡ undecided ⌝ }
+        ensures nothing { λ r. ⌜ r ≡ undecided ⌝ }
+        ensures holds { λ r. ⌜ HoldsOfAll r ⌝ }
     {
         Decided {
             lines: [None; 208],

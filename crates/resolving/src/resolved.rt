@@ -1,7 +1,7 @@
 // Resolving.
 ghost use mathlib.Core.Path.{_≡_};
 ghost use Rattle.resolving.specs.Codelets.{lineAt, isInner, innerLine};
-ghost use Rattle.resolving.specs.Resolving.{found, resolvedLine, table, Resolves, KeepsValues};
+ghost use Rattle.resolving.specs.Resolving.{found, resolvedLine, table, Resolves, Only, KeepsValues};
 use crate::codelet::Codelet;
 use crate::decided::Decided;
 use lines::Line;
@@ -78,6 +78,7 @@ impl Codelet {
     pub fn resolve(&self, decided: &Decided) -> Resolved
         ensures table { λ r. ⌜ r .sources ≡ table (now (self .entry)) (now (decided .entry)) 208 ⌝ }
         ensures rules { λ r. ⌜ Resolves (now (self .entry)) (now (decided .entry)) (found (r .sources)) ⌝ }
+        ensures only { λ r. ⌜ Only (now (self .entry)) (now (decided .entry)) (found (r .sources)) ⌝ }
         ensures keeps { λ r. ⌜ KeepsValues (now (self .entry)) (now (decided .entry)) (found (r .sources)) ⌝ }
     {
         let mut sources = [Source::Constant(0); 208];

@@ -9,6 +9,7 @@ use Rattle.std.proofs.shelf.Lists.{take-more-set, take-all}
 use Rattle.lines.specs.declared.line.Source.{Source}
 use Rattle.resolving.specs.Resolving.{found, resolvedLine, table, Resolves, KeepsValues}
 use Rattle.resolving.proofs.Keeps.{keeps-values}
+use Rattle.resolving.proofs.Only.{alike}
 use Rattle.resolving.proofs.Rules.{resolves}
 use Rattle.resolving.proofs.codelet.Codelet.resolve.Needs as need
 
@@ -42,5 +43,6 @@ returns c =
     record {
       table = is;
       rules = subst (λ (t : List Source). Resolves cod d (found t)) (sym is) (resolves cod d);
+      only = λ f rf a b. alike cod d f (found all) rf (subst (λ (t : List Source). Resolves cod d (found t)) (sym is) (resolves cod d)) a b;
       keeps = subst (λ (t : List Source). KeepsValues cod d (found t)) (sym is) (keeps-values cod d);
     }
