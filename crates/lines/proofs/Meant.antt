@@ -1,5 +1,5 @@
 -- Lines leave what the statements leave. Assumes nothing.
-use mathlib.Core.Path.{_≡_, refl, sym, ap, ap₂, _∙_}
+use mathlib.Core.Path.{_≡_, refl, sym, ap, ap₂, subst, _∙_}
 use mathlib.Core.Bool.{Bool, true, false, cond}
 use mathlib.Core.List.{List, [], _∷_, map}
 use mathlib.Core.Logic.{_⊎_, inl, inr}
@@ -7,8 +7,10 @@ use Prim.Native.Nat.{ℕ, zero, suc, _-_, _<_, _≤_}
 use native.Mathlib.Omega.{arith}
 use lib.ListN.{getD, length, take}
 use lib.Seq.{length-take-le, ext-getD}
+use Rattle.std.specs.shelf.Lists.{All}
 use Rattle.std.proofs.shelf.Lists.{length-map, getD-map, getD-take}
 use Rattle.std.proofs.shelf.Tests.{cases-bool, cond-true, cond-false}
+use Rattle.word.specs.Words.{Word}
 use Rattle.transaction.specs.declared.statement.Operand.{Operand}
 use Rattle.transaction.specs.declared.statement.Operand.the-variants.{Field, State}
 use Rattle.transaction.specs.declared.statement.Statement.{Statement}
@@ -25,8 +27,9 @@ use Rattle.lines.specs.Named.{namedOf}
 use Rattle.lines.specs.Build.{sourceOf, start, bodyOf, updatesOf, writeLines, numbered}
 use Rattle.lines.specs.Work.{valueOf, makes}
 use Rattle.lines.specs.Exact.{Exactly, Named-there, In-order}
-use Rattle.lines.specs.Meaning.{wordsLeft, workedOut, Means, Keeps-meaning}
-use Rattle.lines.proofs.Working.{is, stays-all, satisfied}
+use Rattle.lines.specs.Meaning.{wordsLeft, workedOut, Means, Keeps-meaning, Each-makes, Makes-words}
+use Rattle.lines.proofs.Working.{is, stays-all, satisfied, only}
+use Rattle.lines.proofs.Constants.{Fits, Line-fits, Fit, body-fit, lines-fit, value-word, worked-words}
 use Rattle.lines.proofs.Finish.{mark, marked-named, named-long}
 use Rattle.lines.proofs.InOrder.{in-order}
 use Rattle.lines.proofs.Naming.{named-there}
@@ -131,3 +134,17 @@ keeps-meaning t r e plus minus v f s =
 
 pub states-there : (t : Transaction) (r : Lines) → Exactly (statementsOf t) r → Named-there t r
 states-there t r e s n = named-there (t .fields) (t .states) s (statementsOf t) (t .«in_place») (marked-named (statementsOf t) s (ap (λ (l : List Bool). getD l s false) (sym (e .named)) ∙ n))
+
+pub makes-words : (t : Transaction) (r : Lines) → Exactly (statementsOf t) r → Makes-words r
+makes-words t r e plus minus v sums differences incoming met =
+    let fit : Fit (bodyOf (statementsOf t)) = body-fit (t .fields) (t .states) (statementsOf t) (t .«in_place») in
+    let all : All Line-fits (take (r .count) (r .lines)) = subst (All Line-fits) (sym (e .lines)) (lines-fit (t .fields) (t .states) (statementsOf t) (t .«in_place»)) in
+    let made : (n : ℕ) → Word (getD (workedOut plus minus r v) n 0) = worked-words plus minus v sums differences incoming met (take (r .count) (r .lines)) [] (λ n. omega arith) all in
+    record { lines = made; finals = λ i. value-word plus minus v sums differences incoming met (workedOut plus minus r v) made _ (subst (λ (l : List Source). Fits (getD l i (Fixed 0))) (sym (e .finals)) (fit .fields i)) }
+
+pub each-makes : (r : Lines) → Each-makes r
+each-makes r =
+    record {
+      satisfied = λ plus minus v. satisfied plus minus v (take (r .count) (r .lines)) (r .ordered);
+      only = λ plus minus v vs s n h. only plus minus v (take (r .count) (r .lines)) vs (r .ordered) s (suc n) n (omega arith) (omega (arith, length-take-le (r .count) (r .lines) (omega (arith, r .few, r .«lines_long»))));
+    }

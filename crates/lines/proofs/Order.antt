@@ -43,7 +43,7 @@ pub chooses-plain : (f : Frame Source) (new old : Source) → isPlain (chooseFor
 chooses-plain f new old = elim (f .second) as (λ t. isPlain (cond t (L-Choose (f .on) old new) (L-Choose (f .on) new old)) ≡ true) [ true ↦ refl | false ↦ refl ]
 
 -- what holds of each latest value holds after one is renewed
-set-each : (P : Source → Type 0) (t : List Source) (i : ℕ) (x : Source) → ((j : ℕ) → P (getD t j (Fixed 0))) → P x → (j : ℕ) → P (getD (set t i x) j (Fixed 0))
+pub set-each : (P : Source → Type 0) (t : List Source) (i : ℕ) (x : Source) → ((j : ℕ) → P (getD t j (Fixed 0))) → P x → (j : ℕ) → P (getD (set t i x) j (Fixed 0))
 set-each P [] i x h p j = h j
 set-each P (y ∷ t) zero x h p zero = p
 set-each P (y ∷ t) zero x h p (suc j) = h (suc j)

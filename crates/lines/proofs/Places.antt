@@ -6,6 +6,7 @@ use Prim.Native.Nat.{ℕ, zero, suc, _+_, _-_, _<_, _≤_}
 use native.Mathlib.Nat.{add-zero, zero-add}
 use native.Mathlib.Omega.{arith}
 use lib.ListN.{getD, length}
+use Rattle.std.specs.shelf.Lists.{All}
 use Rattle.std.proofs.shelf.Lists.{length-push, getD-push, getD-append-left, getD-map}
 use Rattle.std.proofs.shelf.Tests.{both-ways}
 use Rattle.transaction.specs.declared.statement.Operand.{Operand}
@@ -27,6 +28,11 @@ states-long s (false ∷ ms) = states-long (suc s) ms
 pub mapped-long : {X : Type 0} (f : ℕ → X) (ns : List ℕ) → length (map f ns) ≡ length ns
 mapped-long f [] = refl
 mapped-long f (n ∷ ns) = ap suc (mapped-long f ns)
+
+-- what f gives is such for each number
+pub mapped : {X : Type 0} (P : X → Type 0) (f : ℕ → X) (ns : List ℕ) → ((n : ℕ) → P (f n)) → All P (map f ns)
+mapped P f [] h = tt
+mapped P f (n ∷ ns) h = (h n, mapped P f ns h)
 
 pub firsts-long : (n : ℕ) (ms : List Bool) → length (firsts n ms) ≡ length ms
 firsts-long n [] = refl

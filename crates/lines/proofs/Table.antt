@@ -1,7 +1,7 @@
 -- A transaction's lines in a table: read lines first, write lines last, and what they read. Assumes nothing.
 use mathlib.Core.Path.{_≡_, refl, sym, ap, subst, _∙_}
 use mathlib.Core.Bool.{Bool, true}
-use mathlib.Core.List.{List, [], _∷_, _++_, map, append-assoc, append-nil}
+use mathlib.Core.List.{List, [], _∷_, _++_, append-assoc, append-nil}
 use Prim.Native.Nat.{ℕ, _+_, _-_, _<_, _≤_}
 use native.Mathlib.Omega.{arith}
 use lib.ListN.{getD, length, take, drop}
@@ -18,7 +18,7 @@ use Rattle.lines.specs.Build.{Draft, readLines, writeLine, writeLines, start, 
 use Rattle.lines.specs.Layout.{sourcesOf, isPlain, Ordered, Reads-below, Below, Plain}
 use Rattle.lines.proofs.Sources.{Under, under-is, all-up, all-from, all-is, ordered-push}
 use Rattle.lines.proofs.Order.{Low, all-low}
-use Rattle.lines.proofs.Places.{states-long, mapped-long, reads-long, start-low}
+use Rattle.lines.proofs.Places.{mapped, states-long, mapped-long, reads-long, start-low}
 
 -- what holds of a transaction's lines
 pub record Laid (N : List Bool) (table : List Line) (count : ℕ) (finals updates : List Source) : Type 0 where
@@ -33,10 +33,6 @@ pub record Laid (N : List Bool) (table : List Line) (count : ℕ) (finals update
 
 abbrev Reading : ℕ → Line → Type 0
 Reading n l = All (Under n) (sourcesOf l)
-
-mapped : {X : Type 0} (P : X → Type 0) (f : ℕ → X) (ns : List ℕ) → ((n : ℕ) → P (f n)) → All P (map f ns)
-mapped P f [] h = tt
-mapped P f (n ∷ ns) h = (h n, mapped P f ns h)
 
 ordered-more : (ls ms : List Line) (w : ℕ) → w ≤ length ls → Ordered ls → All (Reading w) ms → Ordered (ls ++ ms)
 ordered-more ls [] w h o u = subst Ordered (sym (append-nil ls)) o

@@ -115,3 +115,11 @@ module _ (plus minus : ℕ → ℕ → ℕ) (v : Values) where
       let same : (m : ℕ) → m < k → getD vs m 0 ≡ getD ws m 0 = λ m j. sym (getD-take k vs m 0 j) ∙ ap (λ (l : List ℕ). getD l m 0) q in
       same n (omega arith) ∙ satisfied ls o n h
       ∙ sym (makes-same n ws vs (λ m j. same m (omega arith)) (getD ls n (Read 0)) (all-from n _ (λ m r. o n m h r)))
+
+  -- the values are the only ones that satisfy the lines
+  pub only : (ls : List Line) (vs : List ℕ) → Ordered ls → Satisfied plus minus v ls vs → (k n : ℕ) → n < k → n < length ls → getD vs n 0 ≡ getD (worked plus minus v ls) n 0
+  only ls vs o s zero n h j = absurd (omega arith)
+  only ls vs o s (suc k) n h j =
+      s n j
+      ∙ makes-same n (worked plus minus v ls) vs (λ m i. only ls vs o s k m (omega arith) (omega arith)) (getD ls n (Read 0)) (all-from n _ (λ m r. o n m j r))
+      ∙ sym (satisfied ls o n j)

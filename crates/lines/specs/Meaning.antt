@@ -4,6 +4,7 @@ use mathlib.Core.Bool.{Bool, true, false, cond}
 use mathlib.Core.List.{List, [], _∷_, map}
 use Prim.Native.Nat.{ℕ, _<_}
 use lib.ListN.{getD, length, take}
+use Rattle.word.specs.Words.{Word}
 use Rattle.transaction.specs.declared.statement.Statement.{Statement}
 use Rattle.transaction.specs.declared.transaction.Transaction.{Transaction}
 use Rattle.transaction.specs.Programs.{statementsOf}
@@ -43,5 +44,16 @@ abbrev pub Keeps-meaning : Transaction → Lines → Type 0
 Keeps-meaning t r = (plus minus : ℕ → ℕ → ℕ) (v : Values) → length (v .fields) ≡ t .fields → length (v .words) ≡ t .states → Means plus minus r v (statementsOf t)
 
 -- under every arithmetic each line has the value that it makes of the values of what it reads, a read line the old word
-abbrev pub Each-makes : Lines → Type 0
-Each-makes r = (plus minus : ℕ → ℕ → ℕ) (v : Values) → Satisfied plus minus v (take (r .count) (r .lines)) (workedOut plus minus r v)
+pub record Each-makes (r : Lines) : Type 0 where
+  pub satisfied : (plus minus : ℕ → ℕ → ℕ) (v : Values) → Satisfied plus minus v (take (r .count) (r .lines)) (workedOut plus minus r v)
+  -- and no other values are so
+  pub only : (plus minus : ℕ → ℕ → ℕ) (v : Values) (vs : List ℕ) → Satisfied plus minus v (take (r .count) (r .lines)) vs → (n : ℕ) → n < r .count → getD vs n 0 ≡ getD (workedOut plus minus r v) n 0
+
+-- where sums and differences of words are words, as in every arithmetic, and all that the packet brings and meets are words, each line's value is a word, and each final value
+pub record Words-made (plus minus : ℕ → ℕ → ℕ) (r : Lines) (v : Values) : Type 0 where
+  pub lines : (n : ℕ) → Word (getD (workedOut plus minus r v) n 0)
+  pub finals : (i : ℕ) → Word (valueOf (v .fields) (workedOut plus minus r v) (getD (r .finals) i (Fixed 0)))
+
+abbrev pub Makes-words : Lines → Type 0
+Makes-words r =
+    (plus minus : ℕ → ℕ → ℕ) (v : Values) → ((a b : ℕ) → Word a → Word b → Word (plus a b)) → ((a b : ℕ) → Word a → Word b → Word (minus a b)) → ((i : ℕ) → Word (getD (v .fields) i 0)) → ((s : ℕ) → Word (getD (v .words) s 0)) → Words-made plus minus r v

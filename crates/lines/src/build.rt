@@ -13,7 +13,7 @@ ghost use Rattle.lines.specs.declared.line.Line.the-variants.{Read};
 ghost use Rattle.lines.specs.declared.line.Source.the-variants.{Field as Incoming, Line as Made};
 ghost use Rattle.lines.specs.Named.{upFrom};
 ghost use Rattle.lines.specs.Exact.{Exactly, Named-there, In-order};
-ghost use Rattle.lines.specs.Meaning.{Keeps-meaning, Each-makes};
+ghost use Rattle.lines.specs.Meaning.{Keeps-meaning, Each-makes, Makes-words};
 ghost use Rattle.lines.specs.View.{draftOf, frameAt, Pushed, Guarded};
 use crate::builder::Builder;
 use crate::line::Line;
@@ -271,6 +271,7 @@ pub fn lines_of(t: &Transaction) -> Lines
     ensures order { λ r. ⌜ In-order r ⌝ }
     ensures meaning { λ r. ⌜ Keeps-meaning (now (t .entry)) r ⌝ }
     ensures makes { λ r. ⌜ Each-makes r ⌝ }
+    ensures words { λ r. ⌜ Makes-words r ⌝ }
 {
     let named = named_states(t);
     let mut b = Builder::body(t, &named);

@@ -11,8 +11,36 @@ use word::WrapArithmetic;
 #[test]
 fn sampling() -> Result<(), Fail> {
     let image = [
-        1, 2, 1, 8, 4, 1, 16, 24, 9, 6, 1, 0, 0, 24, 1, 0, 16, 24, 0, 7, 0, 0, 24, 0, 1, 16, 16, 24,
-        1, 8,
+        1,
+        2,
+        1,
+        8,
+        4,
+        1,
+        16,
+        24,
+        9,
+        6,
+        1,
+        0,
+        0,
+        24,
+        1,
+        0,
+        16,
+        24,
+        0,
+        7,
+        0,
+        0,
+        24,
+        0,
+        1,
+        16,
+        16,
+        24,
+        1,
+        8,
     ];
     let Ok(t) = read_image(&image) else {
         return Err(Fail::new("refused"));
@@ -29,7 +57,31 @@ fn sampling() -> Result<(), Fail> {
 #[test]
 fn flowlets() -> Result<(), Fail> {
     let image = [
-        1, 4, 2, 7, 2, 3, 0, 16, 3, 3, 24, 5, 3, 6, 3, 0, 17, 1, 8, 0, 16, 0, 0, 2, 17,
+        1,
+        4,
+        2,
+        7,
+        2,
+        3,
+        0,
+        16,
+        3,
+        3,
+        24,
+        5,
+        3,
+        6,
+        3,
+        0,
+        17,
+        1,
+        8,
+        0,
+        16,
+        0,
+        0,
+        2,
+        17,
     ];
     let Ok(t) = read_image(&image) else {
         return Err(Fail::new("refused"));

@@ -5,8 +5,7 @@ use Rattle.transaction.specs.Programs.{statementsOf}
 use Rattle.lines.specs.Build.{numbered}
 use Rattle.lines.proofs.Finish.{named-long, laid-out, first-write, exactly}
 use Rattle.lines.proofs.InOrder.{in-order}
-use Rattle.lines.proofs.Meant.{keeps-meaning, states-there}
-use Rattle.lines.proofs.Working.{satisfied}
+use Rattle.lines.proofs.Meant.{keeps-meaning, each-makes, makes-words, states-there}
 use Rattle.lines.proofs.build.lines_of.Needs as need
 
 pub ghost-result : need.ghost-result
@@ -48,12 +47,12 @@ returns c =
     let b′ = c .write-states .last .self in
     let N = c .named-states-named .result in
     let w = c .write-states .ensures in
-    let l = laid-out xs N (c .named-states-named .ensures) b b′ (c .body-b .ensures .made) (w .lines) (w .fields) (w .states) in
     let exact = exactly xs N (c .named-states-named .ensures) b b′ (c .body-b .ensures .made) (w .lines) (w .fields) (w .states) _ refl refl refl refl refl (c .number-states .ensures) (c .number-states-2 .ensures) in
     record {
       exact = exact;
       there = states-there (c .args .t .now) _ exact;
       order = in-order _;
       meaning = keeps-meaning (c .args .t .now) _ exact;
-      makes = λ plus minus v. satisfied plus minus v _ (l .ordered);
+      words = makes-words (c .args .t .now) _ exact;
+      makes = each-makes _;
     }
