@@ -1,0 +1,4 @@
+pub mod Build
+pub mod Exact
+pub mod Layout
+pub mod Named
