@@ -14,9 +14,9 @@ use Rattle.std.proofs.shelf.Ways.{decides-below-or}
 use Rattle.std.proofs.shelf.Counted.{length-map-counting, getD-map-counting}
 use Rattle.std.proofs.shelf.Lists.{getD-past}
 use Rattle.std.proofs.shelf.Sums.{sumBy-cons, getD-le-sumBy, countBy-le-length}
-use Rattle.graph.specs.Paths.{Path, here, step, On}
-use Rattle.graph.specs.Searches.{Sound, marked}
-use Rattle.graph.specs.Rounds.{some-below, spread, rounds, reached, closure, reaches, Rounds-decide-paths, Closure-decides-paths}
+use Rattle.graph.specs.Paths.{Path, here, step, On, Led}
+use Rattle.graph.specs.Searches.{marked}
+use Rattle.graph.specs.Rounds.{some-below, spread, rounds, reached, led, closure, reaches, Rounds-decide-paths, Led-decides-paths, Closure-decides-paths}
 use Rattle.graph.proofs.Paths.{path-from, path-to}
 
 pub some-decides : (p : ℕ → Bool) (n : ℕ) → Decides (some-below n p) ((k : ℕ) × (k < n) × (p k ≡ true))
@@ -55,14 +55,19 @@ module _ (size : ℕ) (edge : ℕ → ℕ → Bool) where
   spread-adds l m n hm hn on e =
       spread-at l n hn ∙ or-right (getD l n false) _ (some-decides (λ m. getD l m false && edge m n) size .1 (m, hm, and-from _ _ on e))
 
-  spread-sound : (a : ℕ) (l : List Bool) → length l ≡ size → Sound size edge a l → Sound size edge a (spread size edge l)
-  spread-sound a l long s n on =
-      let h = within (spread size edge l) n (spread-long l) on in
-      ⊎-elim (s n) (λ t. let (m, hm, b) = some-decides (λ m. getD l m false && edge m n) size .0 t in let (o, e) = and-parts _ _ b in step m n (s m o) h e) (or-cases (getD l n false) _ (sym (spread-at l n h) ∙ on))
+  -- what holds of the marks and goes on along edges holds of all that the rounds mark
+  Goes-on : (ℕ → Type 0) → Type 0
+  Goes-on P = (b c : ℕ) → P b → c < size → edge b c ≡ true → P c
 
-  rounds-sound : (a k : ℕ) (l : List Bool) → length l ≡ size → Sound size edge a l → Sound size edge a (rounds size edge k l)
-  rounds-sound a zero l long s = s
-  rounds-sound a (suc k) l long s = rounds-sound a k (spread size edge l) (spread-long l) (spread-sound a l long s)
+  spread-sound : (P : ℕ → Type 0) → Goes-on P → (l : List Bool) → length l ≡ size → ((n : ℕ) → On l n → P n) → (n : ℕ) → On (spread size edge l) n → P n
+  unfolding Goes-on
+  spread-sound P goes l long s n on =
+      let h = within (spread size edge l) n (spread-long l) on in
+      ⊎-elim (s n) (λ t. let (m, hm, b) = some-decides (λ m. getD l m false && edge m n) size .0 t in let (o, e) = and-parts _ _ b in goes m n (s m o) h e) (or-cases (getD l n false) _ (sym (spread-at l n h) ∙ on))
+
+  rounds-sound : (P : ℕ → Type 0) → Goes-on P → (k : ℕ) (l : List Bool) → length l ≡ size → ((n : ℕ) → On l n → P n) → (n : ℕ) → On (rounds size edge k l) n → P n
+  rounds-sound P goes zero l long s = s
+  rounds-sound P goes (suc k) l long s = rounds-sound P goes k (spread size edge l) (spread-long l) (spread-sound P goes l long s)
 
   rounds-keep : (k : ℕ) (l : List Bool) (n : ℕ) → length l ≡ size → On l n → On (rounds size edge k l) n
   rounds-keep zero l n long on = on
@@ -99,7 +104,7 @@ module _ (size : ℕ) (edge : ℕ → ℕ → Bool) where
       let z : cond {A = ℕ} (getD (start a) a false) 1 0 ≡ 1 = ap (λ b. cond b 1 0) (start-on a h) in
       omega (arith, getD-le-sumBy (λ b. cond b 1 0) (start a) a false (omega (arith, start-long a)))
 
-  start-sound : (a : ℕ) → Sound size edge a (start a)
+  start-sound : (a n : ℕ) → On (start a) n → Path size edge a n
   unfolding start
   start-sound a n on =
       let h = within (start a) n (start-long a) on in
@@ -107,11 +112,18 @@ module _ (size : ℕ) (edge : ℕ → ℕ → Bool) where
       subst (λ m. Path size edge a m) e (here (omega arith))
 
   pub reached-decides : (a n : ℕ) → Decides (getD (reached size edge a) n false) (Path size edge a n)
-  unfolding start
+  unfolding start Goes-on
   reached-decides a n = (
-    rounds-sound a size (start a) (start-long a) (start-sound a) n,
+    rounds-sound (Path size edge a) (λ b c p h e. step b c p h e) size (start a) (start-long a) (start-sound a) n,
     λ p. let h = path-from size edge p in
         closed-holds a (rounds size edge size (start a)) (closes size (start a) (start-long a) (omega (arith, start-marked a h))) (rounds-keep size (start a) a (start-long a) (start-on a h)) p,
+  )
+
+  pub led-decides : (starts : List Bool) → length starts ≡ size → (n : ℕ) → Decides (getD (led size edge starts) n false) (Led size edge starts n)
+  unfolding Goes-on
+  led-decides starts long n = (
+    rounds-sound (Led size edge starts) (λ b c (a, on, p) h e. (a, on, step b c p h e)) (suc size) starts long (λ m on. (m, on, here (within starts m long on))) n,
+    λ (a, on, p). closed-holds a (led size edge starts) (closes (suc size) starts long (omega arith)) (rounds-keep (suc size) starts a long on) p,
   )
 
   pub closure-decides : (a b : ℕ) → Decides (reaches (closure size edge) a b) (Path size edge a b)
@@ -129,6 +141,9 @@ module _ (size : ℕ) (edge : ℕ → ℕ → Bool) where
 
 pub rounds-decide-paths : Rounds-decide-paths
 rounds-decide-paths size edge a n = reached-decides size edge a n
+
+pub led-decides-paths : Led-decides-paths
+led-decides-paths size edge starts n long = led-decides size edge starts long n
 
 pub closure-decides-paths : Closure-decides-paths
 closure-decides-paths size edge a b = closure-decides size edge a b

@@ -14,6 +14,10 @@ pub data Path (size : ℕ) (edge : ℕ → ℕ → Bool) (a : ℕ) : ℕ → Typ
 abbrev pub On : List Bool → ℕ → Type 0
 On l n = getD l n false ≡ true
 
+-- a path leads to n from a marked node
+abbrev pub Led : ℕ → (ℕ → ℕ → Bool) → List Bool → ℕ → Type 0
+Led size edge starts n = (a : ℕ) × On starts a × Path size edge a n
+
 -- a path goes on where another ends
 abbrev pub Paths-compose : Type 0
 Paths-compose =

@@ -3,11 +3,11 @@ use mathlib.Core.Path.{_≡_}
 use mathlib.Core.Bool.{Bool, true, false, _&&_, _||_}
 use mathlib.Core.List.{List, [], _∷_, map}
 use Prim.Native.Nat.{ℕ, zero, suc}
-use lib.ListN.{getD}
+use lib.ListN.{length, getD}
 use lib.Dec.{eqb}
 use Rattle.std.specs.Iters.{counting}
 use Rattle.std.specs.Orderings.{Decides}
-use Rattle.graph.specs.Paths.{Path}
+use Rattle.graph.specs.Paths.{Path, Led}
 
 -- whether p holds of some number below n
 abbrev pub some-below : ℕ → (ℕ → Bool) → Bool
@@ -26,6 +26,10 @@ rounds size edge (suc k) l = rounds size edge k (spread size edge l)
 abbrev pub reached : ℕ → (ℕ → ℕ → Bool) → ℕ → List Bool
 reached size edge a = rounds size edge size (map (λ n. eqb a n) (counting 0 size))
 
+-- the nodes that a path leads to from a marked one, and a round more, which adds none
+abbrev pub led : ℕ → (ℕ → ℕ → Bool) → List Bool → List Bool
+led size edge starts = rounds size edge (suc size) starts
+
 -- a row for each start
 abbrev pub closure : ℕ → (ℕ → ℕ → Bool) → List (List Bool)
 closure size edge = map (λ a. reached size edge a) (counting 0 size)
@@ -38,6 +42,11 @@ reaches rows a b = getD (getD rows a []) b false
 abbrev pub Rounds-decide-paths : Type 0
 Rounds-decide-paths =
     (size : ℕ) (edge : ℕ → ℕ → Bool) (a n : ℕ) → Decides (getD (reached size edge a) n false) (Path size edge a n)
+
+-- from any marks on the nodes
+abbrev pub Led-decides-paths : Type 0
+Led-decides-paths =
+    (size : ℕ) (edge : ℕ → ℕ → Bool) (starts : List Bool) (n : ℕ) → length starts ≡ size → Decides (getD (led size edge starts) n false) (Led size edge starts n)
 
 abbrev pub Closure-decides-paths : Type 0
 Closure-decides-paths =

@@ -3,7 +3,7 @@ ghost use mathlib.Core.Path.{_≡_};
 ghost use mathlib.Core.Bool.{Bool};
 ghost use Prim.Native.Nat.{ℕ, _≤_};
 ghost use Rattle.graph.specs.Paths.{Paths-compose, Paths-turn};
-ghost use Rattle.graph.specs.Rounds.{Rounds-decide-paths, Closure-decides-paths};
+ghost use Rattle.graph.specs.Rounds.{Rounds-decide-paths, Led-decides-paths, Closure-decides-paths};
 ghost use Rattle.graph.specs.Samples.{Sample-reached};
 
 mod marks;
@@ -13,6 +13,7 @@ mod views;
 pub use marks::Marks;
 pub use marks::ROOM;
 pub use search::reach;
+pub use search::spread;
 pub use views::Turned;
 pub use views::TurnedGraph;
 pub use views::Within;
@@ -37,6 +38,7 @@ pub trait Graph {
 // The rounds of the definition find exactly the nodes that a path leads to; a sample computes.
 pub fn rounds_decide_paths() -> u8
     ensures one { λ _. ⌜ Rounds-decide-paths ⌝ }
+    ensures led { λ _. ⌜ Led-decides-paths ⌝ }
     ensures all { λ _. ⌜ Closure-decides-paths ⌝ }
     ensures sample { λ _. ⌜ Sample-reached ⌝ }
 {

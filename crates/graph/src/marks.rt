@@ -1,7 +1,7 @@
 // Marks on nodes.
 ghost use mathlib.Core.Path.{_≡_};
 ghost use mathlib.Core.Bool.{true, false};
-ghost use lib.ListN.{getD, set, replicate};
+ghost use lib.ListN.{length, getD, set, replicate};
 
 // The most nodes that a graph has.
 pub const ROOM: usize = 208;
@@ -10,6 +10,7 @@ pub const ROOM: usize = 208;
 #[derive(Clone, Copy)]
 pub struct Marks {
     pub on: [bool; ROOM],
+    ghost long: { length on ≡ 208 },
 }
 
 impl Marks {
