@@ -1,0 +1,4 @@
+-- The lemmas.
+pub mod Turns
+pub mod Paths
+pub mod Owners
