@@ -2,3 +2,4 @@
 pub mod Turns
 pub mod Paths
 pub mod Owners
+pub mod Least

@@ -8,14 +8,17 @@ ghost use Rattle.std.specs.declared.option.Option.the-variants.{Some, None};
 ghost use Rattle.std.specs.declared.result.Result.the-variants.{Ok, Err};
 ghost use Rattle.graph.specs.Rounds.{some-below};
 ghost use Rattle.codelets.specs.declared.fault.CodeletFault.the-variants.{TwoStates};
-ghost use Rattle.codelets.specs.Codelets.{isNamed, writeOf, meets, inCodelet, isOwner, Owned, Alone, Coded, Smallest};
+ghost use Rattle.codelets.specs.Codelets.{isNamed, writeOf, meets, inCodelet, Owned, Alone, Coded, Smallest};
+ghost use Rattle.codelets.specs.Echoes.{owned, inner};
 use crate::edges::LineGraph;
 use crate::edges::LineGraphGraph;
+use crate::edges::is_plain;
 use crate::fault::CodeletFault;
 use graph::Marks;
 use graph::reach;
 use graph::Turned;
 use graph::TurnedGraph;
+use lines::Line;
 use lines::Lines;
 use word::at;
 
@@ -28,6 +31,35 @@ pub struct Codelets {
     ghost owned: { Owned lines owner },
     // no codelet has two states
     ghost alone: { Alone lines },
+}
+
+impl Codelets {
+    // Whether line n is in state s's codelet.
+    pub fn owns(&self, s: usize, n: usize) -> bool
+        ensures { λ r. ⌜ r ≡ inCodelet (now (self .entry) .lines) s n ⌝ }
+    {
+        match at(&self.owner, n, None) {
+            Some(t) => t == s,
+            None => false,
+        }
+    }
+
+    // Whether line n is in some state's codelet; every other line is an outside line.
+    pub fn is_owned(&self, n: usize) -> bool
+        ensures { λ r. ⌜ r ≡ owned (now (self .entry) .lines) n ⌝ }
+    {
+        match at(&self.owner, n, None) {
+            Some(_) => true,
+            None => false,
+        }
+    }
+
+    // Whether line n is an inner line: one of a codelet other than its read and write lines.
+    pub fn is_inner(&self, n: usize) -> bool
+        ensures { λ r. ⌜ r ≡ inner (now (self .entry) .lines) n ⌝ }
+    {
+        self.is_owned(n) && is_plain(at(&self.lines.lines, n, Line::Read(0)))
+    }
 }
 
 // The lines that one line reaches, and those that reach it.

@@ -1,6 +1,6 @@
 // The graph of a transaction's lines.
 ghost use mathlib.Core.Path.{_≡_};
-ghost use Rattle.lines.specs.Layout.{isLine, readsLine};
+ghost use Rattle.lines.specs.Layout.{isLine, readsLine, isPlain};
 ghost use Rattle.codelets.specs.Edges.{writesTo, pairs, edge};
 use graph::Graph;
 use lines::Line;
@@ -32,6 +32,17 @@ pub fn reads(line: Line, n: usize) -> bool
         Line::Equal(a, b) => is_line(a, n) || is_line(b, n),
         Line::Choose(c, a, b) => is_line(c, n) || is_line(a, n) || is_line(b, n),
         Line::Write(_, a) => is_line(a, n),
+    }
+}
+
+// Whether a line is neither a read line nor a write line.
+pub fn is_plain(line: Line) -> bool
+    ensures { λ r. ⌜ r ≡ isPlain line ⌝ }
+{
+    match line {
+        Line::Read(_) => false,
+        Line::Write(_, _) => false,
+        _ => true,
     }
 }
 
