@@ -3,3 +3,5 @@ pub mod Turns
 pub mod Paths
 pub mod Owners
 pub mod Least
+pub mod InOrder
+pub mod Joining

@@ -17,6 +17,9 @@ use Rattle.codelets.specs.Edges.{edge}
 abbrev pub isNamed : Lines → ℕ → Bool
 isNamed r s = getD (r .named) s false
 
+abbrev pub readOf : Lines → ℕ → ℕ
+readOf r s = getD (r .reads) s 0
+
 abbrev pub writeOf : Lines → ℕ → ℕ
 writeOf r s = getD (r .writes) s 0
 
@@ -71,3 +74,15 @@ pub record Coded (r : Lines) (owner : List (Option ℕ)) : Type 0 where
 pub record Smallest (r : Lines) (s : ℕ) : Type 0 where
   pub shares : Shares r s
   pub before : (t : ℕ) → t < s → Shares r t → ⊥
+
+-- a named state's read line and write line are lines, joined both ways, and both are in its codelet
+pub record Joined (r : Lines) (s : ℕ) : Type 0 where
+  pub first : readOf r s < r .count
+  pub last : writeOf r s < r .count
+  pub there : edge r (readOf r s) (writeOf r s) ≡ true
+  pub again : edge r (writeOf r s) (readOf r s) ≡ true
+  pub read : In-codelet r s (readOf r s)
+  pub write : In-codelet r s (writeOf r s)
+
+abbrev pub States-joined : Type 0
+States-joined = (r : Lines) (s : ℕ) → isNamed r s ≡ true → Joined r s

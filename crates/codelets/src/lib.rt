@@ -3,6 +3,7 @@ mod codelets;
 mod echoes;
 mod edges;
 mod fault;
+mod theorem;
 
 pub use codelets::Codelets;
 pub use codelets::codelets_of;
@@ -12,3 +13,5 @@ pub use edges::LineGraphGraph;
 pub use edges::is_line;
 pub use edges::reads;
 pub use fault::CodeletFault;
+pub use theorem::codelets_by_paths;
+pub use theorem::echoes_are_least;
