@@ -1,0 +1,4 @@
+-- The lemmas.
+pub mod Paths
+pub mod Rounds
+pub mod Marking
