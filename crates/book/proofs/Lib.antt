@@ -1,0 +1,7 @@
+pub mod Agreement
+pub mod Cases
+pub mod Histories
+pub mod Packets
+pub mod Runs
+pub mod SerialRun
+pub mod WordsKept
