@@ -3,7 +3,7 @@ use mathlib.Core.Path.{_≡_, refl, sym, ap, ap₂, _∙_, subst}
 use mathlib.Core.Bool.{Bool, true, false, cond, not}
 use mathlib.Core.Logic.{_⊎_, inl, inr}
 use mathlib.Core.List.{List, [], _∷_, _++_, map}
-use Prim.Native.Nat.{ℕ, zero, suc, pred, _+_, _<_, _≤_}
+use Prim.Native.Nat.{ℕ, zero, suc, _+_, _<_, _≤_}
 use native.Mathlib.Omega.{arith}
 use lib.Dec.{eqb, ltb}
 use lib.ListN.{getD, length, length-set}
@@ -17,19 +17,18 @@ use Rattle.std.specs.declared.option.Option.{Option}
 use Rattle.std.specs.declared.option.Option.the-variants.{Some, None}
 use Rattle.std.specs.Options.{isSome, valueOr}
 use Rattle.transaction.specs.Faults.{refusal}
-use Rattle.word.specs.Words.{top}
 use Rattle.meaning.specs.Serial.{Values, values}
 use Rattle.image.specs.Reading.{Answer}
-use Rattle.image.specs.Reading.Answer.{good, bad}
+use Rattle.image.specs.Reading.Answer.{good}
 use Rattle.book.specs.Run.{zeroed, wordsFrom, leavingFrom, wordsAfter, leaving}
 use Rattle.book.specs.Calls.{Call, Outcome, refusedIf, feeding, taking}
 use Rattle.book.specs.Calls.Call.{Feed, Tick, Take, Peek}
-use Rattle.book.specs.Calls.Outcome.{done, packet, word}
+use Rattle.book.specs.Calls.Outcome.{word}
 use Rattle.book.specs.Book.{Packet, fieldsOf, placeOf, fed, standingFrom, standing, reached, moved, marked, answer, after, turned, answers, ended}
 use Rattle.book.specs.Book.Packet.{inside, taken}
-use Rattle.book.specs.Pipeline.{Pipeline, Contents, packetAt, valuesAt, countAt, wordOf, SameSizes, Ticked, FedIn, TakenOut, Step, Stepped, reply, Ran}
+use Rattle.book.specs.Pipeline.{Pipeline, Contents, packetAt, valuesAt, countAt, wordOf, Ticked, FedIn, TakenOut, Stepped, reply, Ran}
 use Rattle.book.specs.Right.{AllWords, Words, Fits, Finds, Carries, Right}
-use Rattle.book.specs.Agrees.{FeedsWords, Lined, Room, Fresh, Carried, Agrees}
+use Rattle.book.specs.Agrees.{FeedsWords, Lined, Fresh, Carried, Agrees}
 use Rattle.book.proofs.Packets.{reached-low, standing-low, not-at, not-later, stands-here, stands-later, reached-entry, reached-within, reached-counted, fields-moved, fields-marked, fed-same, fed-more}
 use Rattle.book.proofs.Packets.{standing-moved, entry-moved, lined-moved, reached-moved, standing-fed, entry-fed, reached-fed, entry-reached, lined-fed, exit-marked, standing-marked, reached-marked, lined-marked}
 use Rattle.book.proofs.SerialRun.{words-none, words-more}
@@ -97,9 +96,9 @@ module _ (P : Pipeline) (one : Values → Values) (R : Right P one) where
       let lt : q < depth = omega (arith, l .0, ne) in
       let full = o q (omega arith) (stands-here n q fs b) in
       let made : valuesAt m′ (suc q) ≡ P .work (suc q) (valuesAt m q) (m .words) =
-            t .works q lt ∙ ap {B = List ℕ} (λ (t : Bool). cond t (P .work (suc q) (valuesAt m q) (m .words)) (valuesAt m (suc q))) full in
-      ( subst (λ (row : List ℕ). Carries P (values fs ws) (suc q) row) (sym made) (Carries.worked (m .words) lt (c .0) (finds m u q ws fs b (omega arith) (l .0) (l .1) x))
-      , carried-moved m m′ q (suc n) (left fs ws) b t (omega arith) (l .1) (not-later depth n q fs b e) (λ r hr y. o r hr (stands-later n r q fs b y)) (words-behind m u q ws (inside fs q) b (omega arith) (omega (arith, l .0)) x) (c .1)
+      t .works q lt ∙ ap {B = List ℕ} (λ (t : Bool). cond t (P .work (suc q) (valuesAt m q) (m .words)) (valuesAt m (suc q))) full in (
+        subst (λ (row : List ℕ). Carries P (values fs ws) (suc q) row) (sym made) (Carries.worked (m .words) lt (c .0) (finds m u q ws fs b (omega arith) (l .0) (l .1) x)),
+        carried-moved m m′ q (suc n) (left fs ws) b t (omega arith) (l .1) (not-later depth n q fs b e) (λ r hr y. o r hr (stands-later n r q fs b y)) (words-behind m u q ws (inside fs q) b (omega arith) (omega (arith, l .0)) x) (c .1),
       )
   carried-moved m m′ u n ws (taken fs q ∷ b) t h l e o x c =
       carried-moved m m′ u (suc n) (left fs ws) b t h (l .2) e o (words-past m u ws fs q b (l .0) x) c
@@ -129,28 +128,30 @@ module _ (P : Pipeline) (one : Values → Values) (R : Right P one) where
 
   agrees-tick : (b : List Packet) (m m′ : Contents) → isSome (standing depth b) ≡ false → Agrees P one b m → Ticked P m m′ → Agrees P one (map moved b) m′
   agrees-tick b m m′ e a t =
-      record
-        { room =
-            record
-              { places = omega (arith, a .room .places, t .sizes .places)
-              ; carried = omega (arith, a .room .carried, t .sizes .carried)
-              ; counts = omega (arith, a .room .counts, t .sizes .counts)
-              }
-        ; lined = lined-moved depth 1 b e (a .lined)
-        ; fields = proper-same moved fields-moved b (a .fields)
-        ; places = pl
-        ; counts = co
-        ; carried = carried-moved m m′ (suc depth) 1 (zeroed states) b t (omega arith) (a .lined) e (λ q h x. ap {B = Bool} isSome (a .places q h) ∙ x) (λ s hs hu. a .words s hs) (a .carried)
-        ; words = wo
-        }
+      record {
+        room =
+            record {
+              places = omega (arith, a .room .places, t .sizes .places);
+              carried = omega (arith, a .room .carried, t .sizes .carried);
+              counts = omega (arith, a .room .counts, t .sizes .counts);
+            };
+        lined = lined-moved depth 1 b e (a .lined);
+        fields = proper-same moved fields-moved b (a .fields);
+        places = pl;
+        counts = co;
+        carried = carried-moved m m′ (suc depth) 1 (zeroed states) b t (omega arith) (a .lined) e (λ q h x. ap {B = Bool} isSome (a .places q h) ∙ x) (λ s hs hu. a .words s hs) (a .carried);
+        words = wo;
+      }
     where
       pl : (q : ℕ) → q ≤ depth → packetAt m′ q ≡ standing q (map moved b)
       pl zero h = t .entry ∙ sym (entry-moved 1 b)
       pl (suc q) h = t .moves q h ∙ a .places q (omega arith) ∙ sym (standing-moved 1 q b)
+
       co : (k : ℕ) → k ≤ depth → countAt m′ k ≡ reached k (map moved b)
       co zero h = t .fed ∙ a .counts 0 (omega arith) ∙ reached-entry b ∙ sym (length-map b moved) ∙ sym (reached-entry (map moved b))
       co (suc k) h =
           t .counts k h ∙ ap₂ {C = ℕ} (λ (o : Option ℕ) (n : ℕ). valueOr o n) (a .places k (omega arith)) (a .counts (suc k) h) ∙ sym (reached-counted depth k b h (a .lined)) ∙ sym (reached-moved depth (suc depth) k b h (a .lined))
+
       wo : (s : ℕ) → s < states → wordOf m′ s ≡ getD (wordsAfter one states (reached (stage s) (map moved b)) (fed (map moved b))) s 0
       wo s hs = go (stage s) refl ∙ ap {B = ℕ} (λ (l : List (List ℕ)). getD (wordsAfter one states (reached (stage s) (map moved b)) l) s 0) (sym (fed-same moved fields-moved b))
         where
@@ -197,27 +198,29 @@ module _ (P : Pipeline) (one : Values → Values) (R : Right P one) where
 
     agrees-feed : (b : List Packet) → Words (P .shape .width) fs → isSome (standing 0 b) ≡ false → Agrees P one b m → Agrees P one (b ++ inside fs 0 ∷ []) m′
     agrees-feed b w e a =
-        record
-          { room =
-              record
-                { places = omega (arith, a .room .places, ap length (t .places), length-set (m .places) 0 (Some (suc (countAt m 0))))
-                ; carried = omega (arith, a .room .carried, ap length (t .carried), length-set (m .carried) 0 (P .enter fs))
-                ; counts = omega (arith, a .room .counts, ap length (t .counts), length-set (m .counts) 0 (suc (countAt m 0)))
-                }
-          ; lined = lined-fed depth (suc depth) 1 fs b (omega arith) e (a .lined)
-          ; fields = all-push (λ (p : Packet). Words (P .shape .width) (fieldsOf p)) b (inside fs 0) (a .fields) w
-          ; places = pl
-          ; counts = co
-          ; carried = carried-fed 1 (zeroed states) b (omega (arith, a .room .carried)) e (a .carried)
-          ; words = wo
-          }
+        record {
+          room =
+              record {
+                places = omega (arith, a .room .places, ap length (t .places), length-set (m .places) 0 (Some (suc (countAt m 0))));
+                carried = omega (arith, a .room .carried, ap length (t .carried), length-set (m .carried) 0 (P .enter fs));
+                counts = omega (arith, a .room .counts, ap length (t .counts), length-set (m .counts) 0 (suc (countAt m 0)));
+              };
+          lined = lined-fed depth (suc depth) 1 fs b (omega arith) e (a .lined);
+          fields = all-push (λ (p : Packet). Words (P .shape .width) (fieldsOf p)) b (inside fs 0) (a .fields) w;
+          places = pl;
+          counts = co;
+          carried = carried-fed 1 (zeroed states) b (omega (arith, a .room .carried)) e (a .carried);
+          words = wo;
+        }
       where
         pl : (q : ℕ) → q ≤ depth → packetAt m′ q ≡ standing q (b ++ inside fs 0 ∷ [])
         pl zero h = at-entry (omega (arith, a .room .places)) ∙ ap Some (ap suc (a .counts 0 (omega arith) ∙ reached-entry b) ∙ omega arith) ∙ sym (entry-fed 1 fs b e)
         pl (suc q) h = at-others q ∙ a .places (suc q) h ∙ sym (standing-fed 1 q fs b)
+
         co : (k : ℕ) → k ≤ depth → countAt m′ k ≡ reached k (b ++ inside fs 0 ∷ [])
         co zero h = count-entry (omega (arith, a .room .counts)) ∙ ap suc (a .counts 0 h) ∙ sym (entry-reached fs b)
         co (suc k) h = count-others k ∙ a .counts (suc k) h ∙ sym (reached-fed k fs b)
+
         wo : (s : ℕ) → s < states → wordOf m′ s ≡ getD (wordsAfter one states (reached (stage s) (b ++ inside fs 0 ∷ [])) (fed (b ++ inside fs 0 ∷ []))) s 0
         wo s hs = ap {B = ℕ} (λ (l : List ℕ). getD l s 0) (t .words) ∙ a .words s hs ∙ go (stage s) refl
           where
@@ -240,24 +243,25 @@ module _ (P : Pipeline) (one : Values → Values) (R : Right P one) where
 
   agrees-take : (b : List Packet) (m m′ : Contents) → Agrees P one b m → TakenOut P m m′ → Agrees P one (map (marked depth) b) m′
   agrees-take b m m′ a t =
-      record
-        { room =
-            record
-              { places = omega (arith, a .room .places, ap length (t .places), length-set (m .places) depth None)
-              ; carried = omega (arith, a .room .carried, ap length (t .carried))
-              ; counts = omega (arith, a .room .counts, ap length (t .counts))
-              }
-        ; lined = lined-marked depth b (a .lined)
-        ; fields = proper-same (marked depth) (fields-marked depth) b (a .fields)
-        ; places = λ q h. pl q h (cases-eq q depth)
-        ; counts = λ k h. ap {B = ℕ} (λ (l : List ℕ). getD l k 0) (t .counts) ∙ a .counts k h ∙ sym (reached-marked depth k b)
-        ; carried = carried-marked m m′ (zeroed states) b (t .carried) (a .carried)
-        ; words = wo
-        }
+      record {
+        room =
+            record {
+              places = omega (arith, a .room .places, ap length (t .places), length-set (m .places) depth None);
+              carried = omega (arith, a .room .carried, ap length (t .carried));
+              counts = omega (arith, a .room .counts, ap length (t .counts));
+            };
+        lined = lined-marked depth b (a .lined);
+        fields = proper-same (marked depth) (fields-marked depth) b (a .fields);
+        places = λ q h. pl q h (cases-eq q depth);
+        counts = λ k h. ap {B = ℕ} (λ (l : List ℕ). getD l k 0) (t .counts) ∙ a .counts k h ∙ sym (reached-marked depth k b);
+        carried = carried-marked m m′ (zeroed states) b (t .carried) (a .carried);
+        words = wo;
+      }
     where
       pl : (q : ℕ) → q ≤ depth → (q ≡ depth) ⊎ (q ≡ depth → ⊥) → packetAt m′ q ≡ standing q (map (marked depth) b)
       pl q h (inl e) = rw e (ap {B = Option ℕ} (λ (l : List (Option ℕ)). getD l depth None) (t .places) ∙ getD-set-same (m .places) depth None None (a .room .places) ∙ sym (exit-marked depth 1 b))
       pl q h (inr e) = ap {B = Option ℕ} (λ (l : List (Option ℕ)). getD l q None) (t .places) ∙ getD-set-other (m .places) depth q None None e ∙ a .places q h ∙ sym (standing-marked depth 1 q b e)
+
       wo : (s : ℕ) → s < states → wordOf m′ s ≡ getD (wordsAfter one states (reached (stage s) (map (marked depth) b)) (fed (map (marked depth) b))) s 0
       wo s hs =
           ap {B = ℕ} (λ (l : List ℕ). getD l s 0) (t .words) ∙ a .words s hs
@@ -324,12 +328,12 @@ module _ (P : Pipeline) (one : Values → Values) (R : Right P one) where
   -- a machine at its start agrees with the empty book
   pub fresh-agrees : (m : Contents) → Fresh P m → Agrees P one [] m
   fresh-agrees m z =
-      record
-        { room = z .room
-        ; lined = tt
-        ; fields = tt
-        ; places = z .places
-        ; counts = z .counts
-        ; carried = tt
-        ; words = λ s hs. z .words s hs ∙ sym (getD-replicate states s 0 0 hs)
-        }
+      record {
+        room = z .room;
+        lined = tt;
+        fields = tt;
+        places = z .places;
+        counts = z .counts;
+        carried = tt;
+        words = λ s hs. z .words s hs ∙ sym (getD-replicate states s 0 0 hs);
+      }

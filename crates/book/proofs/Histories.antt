@@ -1,17 +1,16 @@
 -- The book of a run: its packets, places and marks are those that the calls and answers tell. Assumes nothing.
-use mathlib.Core.Path.{_≡_, refl, sym, ap, ap₂, _∙_, subst}
+use mathlib.Core.Path.{_≡_, refl, sym, ap, ap₂, _∙_}
 use mathlib.Core.Bool.{Bool, true, false, cond}
 use mathlib.Core.Logic.{_⊎_, inl, inr}
 use mathlib.Core.List.{List, [], _∷_, _++_, map}
 use Prim.Native.Nat.{ℕ, zero, suc, _+_, _<_, _≤_}
 use native.Mathlib.Nat.{add-zero}
 use native.Mathlib.Omega.{arith}
-use lib.Dec.{eqb, leb}
+use lib.Dec.{eqb}
 use lib.ListN.{getD, length}
-use borrow.Author.Tests.{le-leb, eq-eqb, ne-eqb, eqb-true}
+use borrow.Author.Tests.{le-leb, eq-eqb, ne-eqb}
 use Rattle.std.proofs.shelf.Lists.{append-nil, append-assoc, length-map, length-push, getD-append-left, getD-push}
 use Rattle.std.proofs.shelf.Tests.{cases-lt}
-use Rattle.std.specs.declared.option.Option.{Option}
 use Rattle.std.specs.declared.option.Option.the-variants.{Some, None}
 use Rattle.std.specs.Options.{isSome}
 use Rattle.transaction.specs.declared.refusal.Refusal.{Refusal}
@@ -21,8 +20,8 @@ use Rattle.image.specs.Reading.Answer.{good, bad}
 use Rattle.book.specs.Run.{zeroed, leaving}
 use Rattle.book.specs.Calls.{Call, Outcome}
 use Rattle.book.specs.Calls.Call.{Feed, Tick, Take, Peek}
-use Rattle.book.specs.Calls.Outcome.{done, packet, word}
-use Rattle.book.specs.Book.{Shape, Packet, fieldsOf, placeOf, fed, standingFrom, standing, reached, moved, marked, after}
+use Rattle.book.specs.Calls.Outcome.{done, packet}
+use Rattle.book.specs.Book.{Shape, Packet, fieldsOf, fed, standingFrom, standing, reached, moved, marked, after}
 use Rattle.book.specs.Book.Packet.{inside, taken}
 use Rattle.book.specs.Agrees.{Lined}
 use Rattle.book.specs.Laws.{Exchange, exchange, fedBy, ticksBy, takenBy, fedIn, ticksIn, takenIn, ticksSince, atLeast}
@@ -153,6 +152,7 @@ stands-at d u n (suc i) (inside fs q ∷ b) (x ∷ ns) h l w a z = go (stands-at
     none-behind [] k = omega arith
     none-behind (inside gs r ∷ b) k = omega arith
     none-behind (taken gs r ∷ b) k = absurd (omega (arith, l .0, k .1))
+
     go : (getD ns i 0 < q) × (standingFrom (suc n) (getD ns i 0) b ≡ Some (suc n + i)) → (getD ns i 0 < u) × (standingFrom n (getD ns i 0) (inside fs q ∷ b) ≡ Some (n + suc i))
     go r = (omega (arith, r .0, l .0), rw (ne-eqb q (getD ns i 0) (omega (arith, r .0))) (r .1 ∙ ap Some (omega arith)))
 stands-at d u n zero (taken fs q ∷ b) (x ∷ ns) h l w a z = absurd (omega arith)
@@ -189,36 +189,37 @@ module _ (shape : Shape) (one : Values → Values) where
 
   kept-fed : (fs : List ℕ) (ps : List (List ℕ)) (ns : List ℕ) (out : List (List ℕ)) (b : List Packet) → isSome (standing 0 b) ≡ false → Kept ps ns out b → Kept (ps ++ fs ∷ []) (ns ++ 0 ∷ []) out (b ++ inside fs 0 ∷ [])
   kept-fed fs ps ns out b e k =
-      record
-        { packets = ap {B = List (List ℕ)} (λ (l : List (List ℕ)). l ++ fs ∷ []) (k .packets) ∙ sym (fed-more fs b)
-        ; lined = lined-fed (shape .depth) (suc (shape .depth)) 1 fs b (omega arith) e (k .lined)
-        ; walked = walked-fed fs b ns (k .walked)
-        ; gone = k .gone ∙ sym (front-fed fs b)
-        ; order = λ n h. k .order n h ∙ sym (leaving-more one (zeroed (shape .states)) n ps (fs ∷ []) (omega (arith, h, k .gone, front-within b, ap length (k .packets), length-map b fieldsOf)))
-        }
+      record {
+        packets = ap {B = List (List ℕ)} (λ (l : List (List ℕ)). l ++ fs ∷ []) (k .packets) ∙ sym (fed-more fs b);
+        lined = lined-fed (shape .depth) (suc (shape .depth)) 1 fs b (omega arith) e (k .lined);
+        walked = walked-fed fs b ns (k .walked);
+        gone = k .gone ∙ sym (front-fed fs b);
+        order = λ n h. k .order n h ∙ sym (leaving-more one (zeroed (shape .states)) n ps (fs ∷ []) (omega (arith, h, k .gone, front-within b, ap length (k .packets), length-map b fieldsOf)));
+      }
 
   kept-moved : (ps : List (List ℕ)) (ns : List ℕ) (out : List (List ℕ)) (b : List Packet) → isSome (standing (shape .depth) b) ≡ false → Kept ps ns out b → Kept ps (map (λ n. n + 1) ns) out (map moved b)
   kept-moved ps ns out b e k =
-      record
-        { packets = k .packets ∙ sym (fed-same moved fields-moved b)
-        ; lined = lined-moved (shape .depth) 1 b e (k .lined)
-        ; walked = walked-moved b ns (k .walked)
-        ; gone = k .gone ∙ sym (front-moved b)
-        ; order = k .order
-        }
+      record {
+        packets = k .packets ∙ sym (fed-same moved fields-moved b);
+        lined = lined-moved (shape .depth) 1 b e (k .lined);
+        walked = walked-moved b ns (k .walked);
+        gone = k .gone ∙ sym (front-moved b);
+        order = k .order;
+      }
 
   kept-marked : (i : ℕ) (ps : List (List ℕ)) (ns : List ℕ) (out : List (List ℕ)) (b : List Packet) → standing (shape .depth) b ≡ Some i → Kept ps ns out b → Kept ps ns (out ++ leaving one (shape .states) i (fed b) ∷ []) (map (marked (shape .depth)) b)
   kept-marked i ps ns out b e k =
-      record
-        { packets = k .packets ∙ sym (fed-same (marked (shape .depth)) (fields-marked (shape .depth)) b)
-        ; lined = lined-marked (shape .depth) b (k .lined)
-        ; walked = walked-marked (shape .depth) b ns (k .walked)
-        ; gone = length-push out (leaving one (shape .states) i (fed b)) ∙ omega (arith, k .gone, first .2)
-        ; order = λ n h. go n h (cases-lt n (length out))
-        }
+      record {
+        packets = k .packets ∙ sym (fed-same (marked (shape .depth)) (fields-marked (shape .depth)) b);
+        lined = lined-marked (shape .depth) b (k .lined);
+        walked = walked-marked (shape .depth) b ns (k .walked);
+        gone = length-push out (leaving one (shape .states) i (fed b)) ∙ omega (arith, k .gone, first .2);
+        order = λ n h. go n h (cases-lt n (length out));
+      }
     where
       first : (i ≡ 1 + front b) × (front b < length b) × (front (map (marked (shape .depth)) b) ≡ suc (front b))
       first = first-out (shape .depth) 1 i b (k .lined) e
+
       go : (n : ℕ) → n < length (out ++ leaving one (shape .states) i (fed b) ∷ []) → (n < length out) ⊎ (length out ≤ n) → getD (out ++ leaving one (shape .states) i (fed b) ∷ []) n [] ≡ leaving one (shape .states) (suc n) ps
       go n h (inl x) = getD-append-left out (leaving one (shape .states) i (fed b) ∷ []) [] n x ∙ k .order n x
       go n h (inr x) =

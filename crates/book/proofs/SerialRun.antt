@@ -1,9 +1,9 @@
 -- The serial run of packets, with more packets behind them. Assumes nothing.
-use mathlib.Core.Path.{_≡_, refl, ap₂, _∙_}
+use mathlib.Core.Path.{_≡_, refl, ap₂}
 use mathlib.Core.List.{List, [], _∷_, _++_}
 use Prim.Native.Nat.{ℕ, zero, suc, _<_, _≤_}
 use native.Mathlib.Omega.{arith}
-use lib.ListN.{getD, length}
+use lib.ListN.{length}
 use Rattle.std.proofs.shelf.Lists.{getD-append-left}
 use Rattle.meaning.specs.Serial.{Values, values}
 use Rattle.book.specs.Run.{wordsFrom, leavingFrom}

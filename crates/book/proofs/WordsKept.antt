@@ -2,15 +2,15 @@
 use mathlib.Core.Path.{_≡_, _∙_}
 use mathlib.Core.Bool.{Bool, true, false, cond, _&&_}
 use mathlib.Core.List.{List, [], _∷_}
-use Prim.Native.Nat.{ℕ, zero, suc, _^_, _<_, _≤_}
+use Prim.Native.Nat.{ℕ, zero, suc}
 use native.Mathlib.Omega.{arith}
 use lib.Dec.{eqb, ltb, leb}
-use lib.ListN.{getD, length, set, length-set}
+use lib.ListN.{length, set, length-set}
 use borrow.Author.Tests.{leb-true}
 use Rattle.std.proofs.shelf.Tests.{and-parts}
 use Rattle.std.specs.declared.option.Option.{Option}
 use Rattle.std.specs.declared.option.Option.the-variants.{Some, None}
-use Rattle.word.specs.Words.{Word, truth, bit, lessThan, equalTo, chosen}
+use Rattle.word.specs.Words.{Word, truth, bit}
 use Rattle.transaction.specs.declared.statement.Operand.{Operand}
 use Rattle.transaction.specs.declared.statement.Operand.the-variants.{Field, State, Constant}
 use Rattle.transaction.specs.declared.statement.Target.{Target}
@@ -19,8 +19,7 @@ use Rattle.transaction.specs.declared.statement.Statement.{Statement}
 use Rattle.transaction.specs.declared.statement.Statement.the-variants.{Copy, Add, Sub, Less, Equal, Choose, If, Else, End}
 use Rattle.transaction.specs.declared.frame.Frame.{Frame}
 use Rattle.transaction.specs.WellFormed.{Program, has, hasTarget, hasAll, within, nested, wellFormed}
-use Rattle.meaning.specs.Serial.{Values, values, Context, context, operandIn, stored, live, assigned, nestAfter, made, step, run, alone}
-use Rattle.book.specs.Run.{oneAlone}
+use Rattle.meaning.specs.Serial.{Values, values, Context, context, operandIn, stored, live, assigned, made, step, run}
 use Rattle.book.specs.Book.{Shape}
 use Rattle.book.specs.Right.{AllWords, Words, Fits}
 use Rattle.book.specs.Theorem.{Words-to-words, Keeps-words}

@@ -1,6 +1,7 @@
 pub mod Agrees
 pub mod Book
 pub mod Calls
+pub mod Example
 pub mod Laws
 pub mod Pipeline
 pub mod Right

@@ -2,7 +2,6 @@
 use mathlib.Core.List.{List, [], _∷_}
 use Prim.Native.Nat.{ℕ, zero, suc, pred}
 use lib.ListN.{getD, replicate}
-use Rattle.transaction.specs.declared.statement.Statement.{Statement}
 use Rattle.transaction.specs.WellFormed.{Program}
 use Rattle.meaning.specs.Serial.{Values, values, alone}
 
