@@ -1,0 +1,9 @@
+pub mod Agreement
+pub mod Carrying
+pub mod Cases
+pub mod Histories
+pub mod Packets
+pub mod Runs
+pub mod SerialRun
+pub mod SummingRight
+pub mod WordsKept
