@@ -30,7 +30,7 @@ pub impl<M: Arithmetic> Atom for Add<M> as AddAtom {
     fn class(&self, codelet: &Codelet, decided: &Decided, update: Source) -> bool {
         match codelet.operation(decided, update) {
             Some(Operation::Set(_)) | Some(Operation::Add(_)) => true,
-            Some(Operation::Subtract(_)) | None => false,
+            _ => false,
         }
     }
 

@@ -1,5 +1,7 @@
 // The layer that chooses.
 ghost use mathlib.Core.Path.{_≡_};
+ghost use mathlib.Core.Bool.{true, false};
+ghost use Rattle.resolving.specs.Sameness.{decide};
 ghost use Rattle.atoms.specs.Kinds.{armsTaken, choiceLength, choiceTakes, choiceRan};
 use crate::atom::Atom;
 use crate::setting::has_room;
@@ -17,13 +19,22 @@ use resolving::Predicate;
 #[derive(Clone, Copy)]
 pub struct Choice<A>(pub A);
 
+// The decided conditions with a fork's condition true, and with it false.
+fn both_ways(decided: &Decided, f: Fork) -> (Decided, Decided)
+    ensures yes { λ r. ⌜ r .0 ≡ decide (now (decided .entry)) (f .condition) true ⌝ }
+    ensures no { λ r. ⌜ r .1 ≡ decide (now (decided .entry)) (f .condition) false ⌝ }
+{
+    let yes = decided.with(f.condition, true);
+    let no = decided.with(f.condition, false);
+    (yes, no)
+}
+
 impl<A: Atom> Choice<A> {
     // Whether the atom below takes both arms of a fork, each with the fork's condition decided.
     fn takes_arms(&self, codelet: &Codelet, decided: &Decided, f: Fork) -> bool
         ensures { λ r. ⌜ r ≡ armsTaken (A·Atom .takes) (now (codelet .entry)) (now (decided .entry)) f ⌝ }
     {
-        let yes = decided.with(f.condition, true);
-        let no = decided.with(f.condition, false);
+        let (yes, no) = both_ways(decided, f);
         self.0.class(codelet, &yes, f.first) && self.0.class(codelet, &no, f.second)
     }
 }
@@ -67,21 +78,18 @@ pub impl<A: Atom> Atom for Choice<A> as ChoiceAtom {
             self.0.fit(codelet, decided, update, &mut buffer[5..5 + n]);
             return true;
         }
-        match codelet.fork(decided, update) {
-            Some(f) => {
-                if !self.takes_arms(codelet, decided, f) {
-                    return false;
-                }
-                let yes = decided.with(f.condition, true);
-                let no = decided.with(f.condition, false);
-                write_predicate(f.predicate, buffer);
-                self.0.fit(codelet, &yes, f.first, &mut buffer[5..5 + n]);
-                self.0
-                    .fit(codelet, &no, f.second, &mut buffer[5 + n..5 + 2 * n]);
-                true
-            }
-            None => false,
+        let Some(f) = codelet.fork(decided, update) else {
+            return false;
+        };
+        if !self.takes_arms(codelet, decided, f) {
+            return false;
         }
+        let (yes, no) = both_ways(decided, f);
+        write_predicate(f.predicate, buffer);
+        self.0.fit(codelet, &yes, f.first, &mut buffer[5..5 + n]);
+        self.0
+            .fit(codelet, &no, f.second, &mut buffer[5 + n..5 + 2 * n]);
+        true
     }
 
     fn run(&self, setting: &[u32], old: u32, packet: &Packet) -> u32 {

@@ -41,13 +41,11 @@ pub impl<M: Arithmetic> Atom for Subtract<M> as SubtractAtom {
         update: Source,
         buffer: &mut [u32],
     ) -> bool {
-        match codelet.operation(decided, update) {
-            Some(operation) => {
-                write_operation(operation, buffer);
-                true
-            }
-            None => false,
-        }
+        let Some(operation) = codelet.operation(decided, update) else {
+            return false;
+        };
+        write_operation(operation, buffer);
+        true
     }
 
     fn run(&self, setting: &[u32], old: u32, packet: &Packet) -> u32 {

@@ -46,8 +46,8 @@ returns-then-class g c =
       rest = fitted .rest;
     }
 
-pub returns-else-not-takes-arms : need.returns-else-not-takes-arms
-returns-else-not-takes-arms g c =
+pub returns : need.returns
+returns g c =
     let n : ℕ = g .A·Atom .len in
     let takes = g .A·Atom .takes in
     let ran = g .A·Atom .ran in
@@ -60,24 +60,24 @@ returns-else-not-takes-arms g c =
     let buffer : List ℕ = c .args .buffer .now in
     let k : ℕ = c .length-n .result in
     let same : k ≡ n = c .length-n .ensures in
-    let xs : List ℕ = c .write-predicate-in-Some .last .buffer in
-    let ys : List ℕ = c .fit-in-Some .last .buffer in
-    let zs : List ℕ = c .fit-in-Some-2 .last .buffer in
+    let xs : List ℕ = c .write-predicate-2 .last .buffer in
+    let ys : List ℕ = c .fit-2 .last .buffer in
+    let zs : List ℕ = c .fit-3 .last .buffer in
     let has : hasRoom (choiceLength n) buffer ≡ true = ap (λ m. hasRoom m buffer) (sym (c .length .ensures)) ∙ sym (c .has-room .ensures) ∙ c .if-not-has-room .left in
-    let yes-is : c .with-yes .result ≡ decide d (f .condition) true = c .with-yes .ensures .decided in
-    let no-is : c .with-no .result ≡ decide d (f .condition) false = c .with-no .ensures .decided in
+    let yes-is : c .both-ways .result .0 ≡ decide d (f .condition) true = c .both-ways .ensures .yes in
+    let no-is : c .both-ways .result .1 ≡ decide d (f .condition) false = c .both-ways .ensures .no in
     let taken : armsTaken takes cod d f ≡ true = sym (c .takes-arms .ensures) ∙ c .if-not-takes-arms .left in
     let t = and-parts _ _ taken in
     let wrote : Fitted plus minus n takes ran cod d u buffer has (putMid (5 + n) ((5 + 2 * n) - (5 + n)) (putMid 5 ((5 + n) - 5) xs ys) zs) =
-    fork-wrote plus minus n takes ran cod d u buffer has xs (c .write-predicate-in-Some .kept .buffer) (c .write-predicate-in-Some .ensures .rest) f ys zs
-    (sym (c .if-class .ensures tt)) (sym (c .in-Some .ensures tt)) (c .write-predicate-in-Some .ensures .written)
-    (c .fit-in-Some .kept .buffer ∙ ap (λ m. length (take ((5 + m) - 5) (drop 5 xs))) same)
-    (c .fit-in-Some-2 .kept .buffer ∙ ap (λ m. length (take ((5 + 2 * m) - (5 + m)) (drop (5 + m) (putMid 5 ((5 + m) - 5) xs ys)))) same)
+    fork-wrote plus minus n takes ran cod d u buffer has xs (c .write-predicate-2 .kept .buffer) (c .write-predicate-2 .ensures .rest) f ys zs
+    (sym (c .if-class .ensures tt)) (sym (c .in-Some .ensures tt)) (c .write-predicate-2 .ensures .written)
+    (c .fit-2 .kept .buffer ∙ ap (λ m. length (take ((5 + m) - 5) (drop 5 xs))) same)
+    (c .fit-3 .kept .buffer ∙ ap (λ m. length (take ((5 + 2 * m) - (5 + m)) (drop (5 + m) (putMid 5 ((5 + m) - 5) xs ys)))) same)
     taken
     (λ h. subst (λ (e : Decided). Right plus minus ran cod e (f .first) ys) yes-is
-    (c .fit-in-Some .ensures .right (c .fit-in-Some .ensures .answer ∙ ap (λ (e : Decided). takes cod e (f .first)) yes-is ∙ t .0) (ap (λ m. hasRoom n (take ((5 + m) - 5) (drop 5 xs))) same ∙ h)))
+    (c .fit-2 .ensures .right (c .fit-2 .ensures .answer ∙ ap (λ (e : Decided). takes cod e (f .first)) yes-is ∙ t .0) (ap (λ m. hasRoom n (take ((5 + m) - 5) (drop 5 xs))) same ∙ h)))
     (λ h. subst (λ (e : Decided). Right plus minus ran cod e (f .second) zs) no-is
-    (c .fit-in-Some-2 .ensures .right (c .fit-in-Some-2 .ensures .answer ∙ ap (λ (e : Decided). takes cod e (f .second)) no-is ∙ t .1) (ap (λ m. hasRoom n (take ((5 + 2 * m) - (5 + m)) (drop (5 + m) (putMid 5 ((5 + m) - 5) xs ys)))) same ∙ h))) in
+    (c .fit-3 .ensures .right (c .fit-3 .ensures .answer ∙ ap (λ (e : Decided). takes cod e (f .second)) no-is ∙ t .1) (ap (λ m. hasRoom n (take ((5 + 2 * m) - (5 + m)) (drop (5 + m) (putMid 5 ((5 + m) - 5) xs ys)))) same ∙ h))) in
     let fitted : Fitted plus minus n takes ran cod d u buffer has (putMid (5 + k) ((5 + 2 * k) - (5 + k)) (putMid 5 ((5 + k) - 5) xs ys) zs) =
     subst (λ m. Fitted plus minus n takes ran cod d u buffer has (putMid (5 + m) ((5 + 2 * m) - (5 + m)) (putMid 5 ((5 + m) - 5) xs ys) zs)) (sym same) wrote in
     record {

@@ -7,8 +7,8 @@ use Rattle.atoms.proofs.Classes.{is-some, subtract-takes}
 use Rattle.atoms.proofs.Operations.{operation-right}
 use Rattle.atoms.proofs.subtract.SubtractAtom.fit.Needs as need
 
-pub returns-in-Some : need.returns-in-Some
-returns-in-Some g c =
+pub returns : need.returns
+returns g c =
     let cod = c .args .codelet .now in
     let d = c .args .decided .now in
     let u = c .args .update in
