@@ -1,0 +1,5 @@
+pub mod Counts
+pub mod NextRow
+pub mod Progress
+pub mod Tables
+pub mod Widths

@@ -1,2 +1,4 @@
 pub mod Faults
 pub mod Limits
+pub mod Filling
+pub mod Rows

@@ -23,9 +23,18 @@ impl LimitFault {
         ensures { λ r. ⌜ r ≡ limitRefusal self ⌝ }
     {
         match self {
-            LimitFault::Stages => Refusal { number: 1, place: 0 },
-            LimitFault::Lines => Refusal { number: 1, place: 1 },
-            LimitFault::Atoms => Refusal { number: 1, place: 2 },
+            LimitFault::Stages => Refusal {
+                number: 1,
+                place: 0,
+            },
+            LimitFault::Lines => Refusal {
+                number: 1,
+                place: 1,
+            },
+            LimitFault::Atoms => Refusal {
+                number: 1,
+                place: 2,
+            },
         }
     }
 }

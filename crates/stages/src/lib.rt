@@ -1,10 +1,13 @@
 // Stages: which stage of the pipeline does each piece of work of a plan.
 mod fault;
+mod filling;
 mod limits;
 mod node;
+mod row;
 
 pub use fault::LimitFault;
 pub use fault::StageFault;
 pub use limits::Limits;
 pub use node::Node;
 pub use node::Nodes;
+pub use node::Stages;

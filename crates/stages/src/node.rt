@@ -22,3 +22,18 @@ pub struct Nodes {
     pub sorts: [Option<Node>; 208],
     pub rows: [usize; 208],
 }
+
+// The stage of each node, from 1, and 0 where there is no node; and how many stages there are.
+#[derive(Clone, Copy)]
+pub struct Stages {
+    pub stage_of: [usize; 208],
+    pub count: usize,
+}
+
+// What a node takes up in a stage. Lines and echoes keep nothing and share the stateless slots; atoms keep a word and take
+// the stateful ones.
+#[derive(Clone, Copy)]
+pub enum Slot {
+    Stateless,
+    Stateful,
+}
