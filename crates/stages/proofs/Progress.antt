@@ -144,3 +144,10 @@ module _ (x : Nodes) (P Q : ℕ) (posP : 1 ≤ P) (posQ : 1 ≤ Q) where
       let u = below-suc x P Q row in
       let f = below-few x P Q posP posQ (suc row) in
       omega arith
+
+  -- the end: no row is left
+  pub all-placed : (needed : ℕ) (next : Option ℕ) (table : List ℕ) → Progress x P Q next needed table → next ≡ None → (k : ℕ) → k < 208 → getD table k 0 ≡ stageOf x P Q k
+  all-placed needed next table h is k lt = h .each k lt ∙ ap (λ q. cond (filled q (rowOf x k)) (stageOf x P Q k) 0) is
+
+  pub all-counted : (needed : ℕ) (next : Option ℕ) (table : List ℕ) → Progress x P Q next needed table → next ≡ None → needed ≡ below x P Q (highest 208 (isNode x) (rowOf x) + 1)
+  all-counted needed next table h is = h .start ∙ ap (startOf x P Q) is

@@ -4,6 +4,7 @@ mod filling;
 mod limits;
 mod node;
 mod row;
+mod theorem;
 
 pub use fault::LimitFault;
 pub use fault::StageFault;
@@ -11,3 +12,4 @@ pub use limits::Limits;
 pub use node::Node;
 pub use node::Nodes;
 pub use node::Stages;
+pub use theorem::worked_examples;

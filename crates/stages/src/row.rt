@@ -10,7 +10,7 @@ use crate::node::Slot;
 use word::at;
 
 impl Node {
-    pub fn slot(self) -> Slot
+    pub(crate) fn slot(self) -> Slot
         ensures { λ r. ⌜ r ≡ slotOf self ⌝ }
     {
         match self {
@@ -36,7 +36,7 @@ impl Slot {
 
 impl Limits {
     // How many such slots a stage has.
-    pub fn room(&self, slot: Slot) -> usize
+    pub(crate) fn room(&self, slot: Slot) -> usize
         ensures exact { λ r. ⌜ r ≡ room (now (self .entry) .lines) (now (self .entry) .atoms) slot ⌝ }
         ensures some { λ r. ⌜ 1 ≤ r ⌝ }
     {
@@ -67,7 +67,7 @@ fn lower(best: Option<usize>, row: usize) -> usize
 
 impl Nodes {
     // The row of the node at n.
-    pub fn row(&self, n: usize) -> usize
+    pub(crate) fn row(&self, n: usize) -> usize
         ensures { λ r. ⌜ r ≡ rowOf (now (self .entry)) n ⌝ }
     {
         at(&self.rows, n, 0)
@@ -88,7 +88,7 @@ impl Nodes {
     }
 
     // How many nodes before n take such a slot in the row.
-    pub fn count(&self, slot: Slot, row: usize, n: usize) -> usize
+    pub(crate) fn count(&self, slot: Slot, row: usize, n: usize) -> usize
         ensures exact { λ r. ⌜ r ≡ tally 208 (precedes (now (self .entry)) slot row n) ⌝ }
         ensures few { λ r. ⌜ r ≤ 208 ⌝ }
     {
@@ -102,7 +102,7 @@ impl Nodes {
     }
 
     // How many stages the row takes.
-    pub fn width(&self, limits: &Limits, row: usize) -> usize
+    pub(crate) fn width(&self, limits: &Limits, row: usize) -> usize
         ensures { λ r. ⌜ r ≡ width (now (self .entry)) (now (limits .entry) .lines) (now (limits .entry) .atoms) row ⌝ }
     {
         let lines = self.count(Slot::Stateless, row, 208);
@@ -122,7 +122,7 @@ impl Nodes {
     }
 
     // The lowest row above the given one, or of all where none is given, that has a node.
-    pub fn row_after(&self, prior: Option<usize>) -> Option<usize>
+    pub(crate) fn row_after(&self, prior: Option<usize>) -> Option<usize>
         ensures { λ r. ⌜ r ≡ nextRow (now (self .entry)) prior 208 ⌝ }
     {
         let mut next = None;
