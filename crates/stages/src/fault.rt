@@ -11,7 +11,7 @@ pub enum LimitFault {
     Atoms,
 }
 
-// More stages are needed than there are.
+// More stages are needed than there are: how many.
 #[derive(Clone, Copy)]
 pub struct StageFault {
     pub needed: usize,
@@ -22,20 +22,12 @@ impl LimitFault {
     pub fn refusal(self) -> Refusal
         ensures { λ r. ⌜ r ≡ limitRefusal self ⌝ }
     {
-        match self {
-            LimitFault::Stages => Refusal {
-                number: 1,
-                place: 0,
-            },
-            LimitFault::Lines => Refusal {
-                number: 1,
-                place: 1,
-            },
-            LimitFault::Atoms => Refusal {
-                number: 1,
-                place: 2,
-            },
-        }
+        let place = match self {
+            LimitFault::Stages => 0,
+            LimitFault::Lines => 1,
+            LimitFault::Atoms => 2,
+        };
+        Refusal { number: 1, place }
     }
 }
 
