@@ -1,0 +1,4 @@
+-- The lemmas.
+pub mod Highest
+pub mod Ranks
+pub mod Sorting
