@@ -2,3 +2,5 @@
 pub mod Highest
 pub mod Ranks
 pub mod Sorting
+pub mod Tops
+pub mod Passing

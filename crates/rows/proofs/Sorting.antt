@@ -99,7 +99,10 @@ read-state (Equal a b) e = absurd (both-ways _ refl e)
 read-state (Choose c a b) e = absurd (both-ways _ refl e)
 read-state (Write s a) e = absurd (both-ways _ refl e)
 
-as-line : (r : Lines) (m : ℕ) (l : Line) → isRead l ≡ false → readsAs r m l ≡ readsLine m l
+pub unread-line : (l : Line) → ((s : ℕ) → l ≡ Read s → ⊥) → isRead l ≡ false
+unread-line l h = false-of (isRead l) (λ e. let (s, q) = read-state l e in h s q)
+
+pub as-line : (r : Lines) (m : ℕ) (l : Line) → isRead l ≡ false → readsAs r m l ≡ readsLine m l
 as-line r m (Read s) e = absurd (both-ways _ e refl)
 as-line r m (Copy a) e = refl
 as-line r m (Add a b) e = refl
