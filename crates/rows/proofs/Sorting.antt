@@ -8,7 +8,7 @@ use lib.Dec.{ltb}
 use Rattle.std.specs.Orderings.{Decides}
 use Rattle.std.specs.declared.option.Option.{Option}
 use Rattle.std.specs.declared.option.Option.the-variants.{Some, None}
-use Rattle.std.proofs.shelf.Tests.{both-ways, cases-bool, and-parts, and-from, not-true, not-from-false, lt-ltb, ltb-true}
+use Rattle.std.proofs.shelf.Tests.{both-ways, cases-bool, and-parts, and-from, not-true, not-from-false, lt-ltb, le-ltb, ltb-true}
 use Rattle.graph.specs.Paths.{Path}
 use Rattle.graph.specs.Rounds.{some-below}
 use Rattle.graph.proofs.Paths.{path-to, path-then}
@@ -39,8 +39,12 @@ false-of false h = refl
 abbrev sort : Bool → Bool → Bool → Bool → Option Node
 sort a b c d = cond a (cond b (cond c (Some Atom) (cond d (Some Echo) None)) (Some Outside)) None
 
-unlike : (x y : Option Node) → x ≡ y → isSome x ≡ true → isSome y ≡ false → ⊥
-unlike x y e p q = both-ways _ q (sym (ap isSome e) ∙ p)
+pub sort-from : (r : Lines) (n : ℕ) (a b c d : Bool) → ltb n (r .count) ≡ a → owned r n ≡ b → isRead (lineAt r n) ≡ c → echo r n ≡ d → sort a b c d ≡ sortOf r n
+sort-from r n a b c d p q u v =
+    sym (ap₂ (λ a b. cond a (cond b (ownedSort r n) (Some Outside)) None) p q ∙ ap₂ (λ c d. cond a (cond b (cond c (Some Atom) (cond d (Some Echo) None)) (Some Outside)) None) u v)
+
+pub sort-past : (r : Lines) (n : ℕ) → r .count ≤ n → sortOf r n ≡ None
+sort-past r n h = ap (λ a. cond a (cond (owned r n) (ownedSort r n) (Some Outside)) None) (le-ltb n (r .count) h)
 
 abbrev code : Option Node → ℕ
 code None = 0
