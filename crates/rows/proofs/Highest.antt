@@ -8,7 +8,7 @@ use native.Mathlib.Nat.{le-max-left, le-max-right, max-le, zero-max, le-trans, l
 use native.Mathlib.Numerals.{add-one}
 use native.Mathlib.Omega.{arith}
 use lib.Dec.{eqb}
-use Rattle.std.proofs.shelf.Tests.{both-ways, cases-eq, cases-lt, cond-true, cond-false, or-cases, or-left, or-right, eq-eqb, eqb-true}
+use Rattle.std.proofs.shelf.Tests.{both-ways, cases-eq, cases-lt, cond-true, or-cases, or-left, or-right, eq-eqb, eqb-true}
 use Rattle.lines.specs.declared.line.Source.{Source}
 use Rattle.lines.specs.declared.line.Source.the-variants.{Field, Line as Made, Constant}
 use Rattle.lines.specs.Named.{anyOf}
@@ -59,12 +59,9 @@ highest-some (suc n) p f = go (p n) refl (highest-some n p f)
     go true e (inl z) = inr (n, omega arith, e, omega arith)
     go true e (inr (m, lt, t, q)) = ⊎-elim (λ lt. inr (n, omega arith, e, omega arith)) (λ le. inr (m, omega arith, t, omega arith)) (cases-lt (highest n p f) (f n))
 
--- turns of the scan for the highest
-pub high-yes : (p : ℕ → Bool) (f : ℕ → ℕ) (m best r : ℕ) → best ≡ highest m p f → r ≡ max (f m) best → p m ≡ true → r ≡ highest (m + 1) p f
-high-yes p f m best r h e t = rw (add-one m) (e ∙ ap₂ max (sym (cond-true (p m) (f m) 0 t)) h)
-
-pub high-no : (p : ℕ → Bool) (f : ℕ → ℕ) (m best r : ℕ) → best ≡ highest m p f → r ≡ best → p m ≡ false → r ≡ highest (m + 1) p f
-high-no p f m best r h e t = rw (add-one m) (e ∙ (h ∙ (sym (zero-max (highest m p f)) ∙ ap (λ x. max x (highest m p f)) (sym (cond-false (p m) (f m) 0 t)))))
+-- a turn of the scan for the highest
+pub high-next : (p : ℕ → Bool) (f : ℕ → ℕ) (m best x r : ℕ) → best ≡ highest m p f → x ≡ cond (p m) (f m) 0 → r ≡ max x best → r ≡ highest (m + 1) p f
+high-next p f m best x r h q e = rw (add-one m) (e ∙ ap₂ max q h)
 
 -- the highest of a list of sources
 source-holds : (f : ℕ → ℕ) (x : Source) (m : ℕ) → isLine m x ≡ true → f m ≤ sourceTop f x

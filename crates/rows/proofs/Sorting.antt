@@ -2,9 +2,11 @@
 use mathlib.Core.Path.{_≡_, refl, sym, ap, ap₂, subst, _∙_}
 use mathlib.Core.Logic.{_⊎_, inl, inr, ⊎-elim}
 use mathlib.Core.Bool.{Bool, true, false, not, cond, _&&_, _||_}
-use Prim.Native.Nat.{ℕ, _<_, _≤_}
+use mathlib.Core.List.{List}
+use Prim.Native.Nat.{ℕ, _+_, _<_, _≤_}
 use native.Mathlib.Omega.{arith}
 use lib.Dec.{ltb}
+use lib.ListN.{getD}
 use Rattle.std.specs.Orderings.{Decides}
 use Rattle.std.specs.declared.option.Option.{Option}
 use Rattle.std.specs.declared.option.Option.the-variants.{Some, None}
@@ -29,6 +31,9 @@ use Rattle.rows.specs.declared.nodes.Node.the-variants.{Line as Outside, Echo,
 use Rattle.rows.specs.Sorts.{isRead, ownedSort, sortOf, isSome, isNode, Sorted, Sorts-stand}
 use Rattle.rows.specs.Makers.{readInside, atomReads, readsAs, makes, Reads, line as by-line, echo as by-echo, atom as by-atom, Made, Makers-stand}
 use Rattle.rows.specs.Rows.{rowOf, Rule, Ranked, Rows-stand}
+use Rattle.rows.specs.Passes.{rowAt}
+use Rattle.rows.specs.Placed.{Placed}
+use Rattle.rows.proofs.Highest.{highest-same}
 use Rattle.rows.proofs.Ranks.{rule-all, rule-only, rule-lower, row-first, row-last}
 
 false-of : (b : Bool) → (b ≡ true → ⊥) → b ≡ false
@@ -224,6 +229,19 @@ module _ (r : Lines) where
     first = λ n o. row-first r n (node-is-line n o);
     last = λ n o. row-last r n (node-is-line n o);
   }
+
+-- tables that hold the definition's sorts and rows
+pub placed : (r : Lines) (table : List (Option Node)) (rows : List ℕ) → ((n : ℕ) → getD table n None ≡ sortOf r n) → ((n : ℕ) → n < r .count → getD rows n 0 ≡ rowOf r n) → Placed r table rows
+placed r table rows s h = record {
+  nodes = s;
+  rule = λ n o. let lt = node n o in h n lt ∙ (rule-all r n lt ∙ ap (λ x. 1 + x) (highest-same (r .count) (λ m. makes r m n) (rowOf r) (rowAt rows) (λ m hm _. sym (h m hm))));
+  lower = λ m n x. let (o, p) = asked r x in let q = maker r x in let lt = rule-lower r m n (node-is-line r m q) (node-is-line r n o) p in (ap isSome (s m) ∙ q, omega (arith, h m (node-is-line r m q), h n (node-is-line r n o)));
+  first = λ n o. omega (arith, h n (node n o), row-first r n (node n o));
+  last = λ n o. omega (arith, h n (node n o), row-last r n (node n o));
+}
+  where
+    node : (n : ℕ) → isSome (getD table n None) ≡ true → n < r .count
+    node n o = node-is-line r n (sym (ap isSome (s n)) ∙ o)
 
 pub sorts-stand : Sorts-stand
 sorts-stand = sorted

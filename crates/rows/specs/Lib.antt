@@ -3,3 +3,4 @@ pub mod Sorts
 pub mod Makers
 pub mod Rows
 pub mod Passes
+pub mod Placed

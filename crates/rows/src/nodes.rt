@@ -7,6 +7,7 @@ ghost use Rattle.std.specs.declared.option.Option.the-variants.{None};
 ghost use Rattle.codelets.specs.Echoes.{echo};
 ghost use Rattle.rows.specs.Sorts.{isRead, sortOf};
 ghost use Rattle.rows.specs.Rows.{rowOf};
+ghost use Rattle.rows.specs.Placed.{Placed};
 use crate::ranking::rows_of;
 use codelets::Codelets;
 use codelets::echoes_of;
@@ -78,7 +79,8 @@ fn sorts_of(c: &Codelets) -> [Option<Node>; 208]
 
 // The nodes, each with its row.
 pub fn nodes_of(c: &Codelets) -> Nodes
-    ensures { λ r. ⌜ r .codelets ≡ now (c .entry) ⌝ }
+    ensures same { λ r. ⌜ r .codelets ≡ now (c .entry) ⌝ }
+    ensures placed { λ r. ⌜ Placed (now (c .entry) .lines) (r .sort) (r .rows) ⌝ }
 {
     let sort = sorts_of(c);
     let rows = rows_of(c);

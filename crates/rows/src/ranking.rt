@@ -1,7 +1,9 @@
 // The rows of nodes, by passes that raise numbers until none has to rise.
 ghost use mathlib.Core.Path.{_≡_};
+ghost use mathlib.Core.Bool.{cond};
 ghost use Prim.Native.Nat.{ℕ, _<_};
 ghost use lib.ListN.{length, getD};
+ghost use Rattle.codelets.specs.Edges.{lineAt};
 ghost use Rattle.codelets.specs.Codelets.{inCodelet};
 ghost use Rattle.rows.specs.Makers.{makes};
 ghost use Rattle.rows.specs.Rows.{highest, rowOf};
@@ -51,6 +53,13 @@ fn outside(c: &Codelets, s: usize, rows: &[usize; 208]) -> [usize; 208]
     seen
 }
 
+// The highest number that line i reads where it is in state s's codelet, or 0.
+fn part_top(c: &Codelets, s: usize, rows: &[usize; 208], i: usize) -> usize
+    ensures { λ r. ⌜ r ≡ cond (inCodelet (now (c .entry) .lines) s i) (lineTop (rowAt (now (rows .entry))) (lineAt (now (c .entry) .lines) i)) 0 ⌝ }
+{
+    if c.owns(s, i) { line_top(rows, at(&c.lines.lines, i, Line::Read(0))) } else { 0 }
+}
+
 // The highest number that a line of state s's codelet reads from outside, or 0.
 fn atom_top(c: &Codelets, s: usize, rows: &[usize; 208]) -> usize
     ensures { λ r. ⌜ r ≡ atomTop (now (c .entry) .lines) s (rowAt (now (rows .entry))) ⌝ }
@@ -58,9 +67,7 @@ fn atom_top(c: &Codelets, s: usize, rows: &[usize; 208]) -> usize
     let seen = outside(c, s, rows);
     let mut best = 0;
     for i in 0..c.lines.count {
-        if c.owns(s, i) {
-            best = line_top(&seen, at(&c.lines.lines, i, Line::Read(0))).max(best);
-        }
+        best = part_top(c, s, &seen, i).max(best);
     }
     best
 }
