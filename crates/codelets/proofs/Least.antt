@@ -64,7 +64,7 @@ module _ (r : Lines) where
   pub seed-past : (n : ℕ) → r .count ≤ n → seed r n ≡ false
   seed-past n h = ap (λ b. b && (isFinal r n || leaves r n)) (inner-past n h)
 
-  echo-inner : {n : ℕ} → Echo r n → inner r n ≡ true
+  pub echo-inner : {n : ℕ} → Echo r n → inner r n ≡ true
   echo-inner (ends n i f) = i
   echo-inner (parts n m s i p h e o) = i
   echo-inner (serves n m i e x) = i
