@@ -26,9 +26,10 @@ use Rattle.codelets.proofs.Paths.{codelet-decides, named-below, in-below}
 use Rattle.codelets.proofs.Least.{inner-below, echo-inner, echo-decides}
 use Rattle.codelets.proofs.InOrder.{lower, unread, read-line, unwritten}
 use Rattle.codelets.proofs.Joining.{joined, read-of}
-use Rattle.rows.specs.declared.nodes.Node.{Node}
-use Rattle.rows.specs.declared.nodes.Node.the-variants.{Line as Outside, Echo, Atom}
-use Rattle.rows.specs.Sorts.{isRead, ownedSort, sortOf, isSome, isNode, Sorted, Sorts-stand}
+use Rattle.std.specs.Options.{isSome}
+use Rattle.stages.specs.declared.node.Node.{Node}
+use Rattle.stages.specs.declared.node.Node.the-variants.{Line as Outside, Echo, Atom}
+use Rattle.rows.specs.Sorts.{isRead, ownedSort, sortOf, isNode, Sorted, Sorts-stand}
 use Rattle.rows.specs.Makers.{readInside, atomReads, readsAs, makes, Reads, line as by-line, echo as by-echo, atom as by-atom, Made, Makers-stand}
 use Rattle.rows.specs.Rows.{rowOf, Rule, Ranked, Rows-stand}
 use Rattle.rows.specs.Passes.{rowAt}

@@ -11,7 +11,7 @@ use Rattle.lines.specs.declared.lines.Lines.{Lines}
 use Rattle.lines.specs.Layout.{readsLine}
 use Rattle.codelets.specs.Edges.{lineAt, readBy}
 use Rattle.codelets.specs.Codelets.{isNamed, readOf, In-codelet, inCodelet}
-use Rattle.rows.specs.declared.nodes.Node.the-variants.{Line as Outside, Echo, Atom}
+use Rattle.stages.specs.declared.node.Node.the-variants.{Line as Outside, Echo, Atom}
 use Rattle.rows.specs.Sorts.{sortOf, isNode}
 
 -- a line of state s's codelet, and it reads line m

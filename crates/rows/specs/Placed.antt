@@ -7,8 +7,9 @@ use lib.ListN.{getD}
 use Rattle.std.specs.declared.option.Option.{Option}
 use Rattle.std.specs.declared.option.Option.the-variants.{None}
 use Rattle.lines.specs.declared.lines.Lines.{Lines}
-use Rattle.rows.specs.declared.nodes.Node.{Node}
-use Rattle.rows.specs.Sorts.{sortOf, isSome}
+use Rattle.stages.specs.declared.node.Node.{Node}
+use Rattle.std.specs.Options.{isSome}
+use Rattle.rows.specs.Sorts.{sortOf}
 use Rattle.rows.specs.Makers.{makes, Reads}
 use Rattle.rows.specs.Rows.{highest}
 use Rattle.rows.specs.Passes.{rowAt}

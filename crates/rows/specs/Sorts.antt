@@ -4,6 +4,7 @@ use mathlib.Core.Path.{_≡_}
 use mathlib.Core.Bool.{Bool, true, false, not, cond, _&&_}
 use Prim.Native.Nat.{ℕ, _<_}
 use lib.Dec.{ltb}
+use Rattle.std.specs.Options.{isSome}
 use Rattle.std.specs.declared.option.Option.{Option}
 use Rattle.std.specs.declared.option.Option.the-variants.{Some, None}
 use Rattle.lines.specs.declared.line.Line.{Line}
@@ -12,8 +13,8 @@ use Rattle.lines.specs.declared.lines.Lines.{Lines}
 use Rattle.codelets.specs.Edges.{lineAt}
 use Rattle.codelets.specs.Codelets.{isNamed, readOf}
 use Rattle.codelets.specs.Echoes.{owned, echo, Echo as Is-echo}
-use Rattle.rows.specs.declared.nodes.Node.{Node}
-use Rattle.rows.specs.declared.nodes.Node.the-variants.{Line as Outside, Echo, Atom}
+use Rattle.stages.specs.declared.node.Node.{Node}
+use Rattle.stages.specs.declared.node.Node.the-variants.{Line as Outside, Echo, Atom}
 
 abbrev pub isRead : Line → Bool
 isRead (Read s) = true
@@ -32,10 +33,6 @@ ownedSort r n = cond (isRead (lineAt r n)) (Some Atom) (cond (echo r n) (Some Ec
 -- what stands at a number
 abbrev pub sortOf : Lines → ℕ → Option Node
 sortOf r n = cond (ltb n (r .count)) (cond (owned r n) (ownedSort r n) (Some Outside)) None
-
-abbrev pub isSome : Option Node → Bool
-isSome None = false
-isSome (Some x) = true
 
 abbrev pub isNode : Lines → ℕ → Bool
 isNode r n = isSome (sortOf r n)

@@ -3,7 +3,6 @@ mod nodes;
 mod ranking;
 mod theorem;
 
-pub use nodes::Node;
 pub use nodes::Nodes;
 pub use nodes::nodes_of;
 pub use ranking::rows_of;

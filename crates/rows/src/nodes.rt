@@ -13,18 +13,8 @@ use codelets::Codelets;
 use codelets::echoes_of;
 use graph::Marks;
 use lines::Line;
+use stages::Node;
 use word::at;
-
-// What a stage works out. It stands at a line's number.
-#[derive(Clone, Copy)]
-pub enum Node {
-    // a line outside every codelet
-    Line,
-    // an inner line's value, made again for those outside its codelet
-    Echo,
-    // a state's update, at its read line; it makes the old word that the packet carries on
-    Atom,
-}
 
 // The nodes of lines that are sorted into codelets, each with its row.
 #[derive(Clone, Copy)]
