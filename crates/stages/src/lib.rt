@@ -8,6 +8,7 @@ mod theorem;
 
 pub use fault::LimitFault;
 pub use fault::StageFault;
+pub use filling::fill;
 pub use limits::Limits;
 pub use node::Node;
 pub use node::Nodes;

@@ -5,12 +5,14 @@ ghost use Rattle.std.specs.declared.result.Result.the-variants.{Ok, Err};
 ghost use Rattle.stages.specs.Limits.{faultOf, firstOut};
 use crate::fault::LimitFault;
 
-// How many stages a pipeline has at most, and how many lines and echoes, and how many atoms, each stage has room for.
-// Every value of this type is in range.
+// What a pipeline has room for. Every value of this type is in range.
 #[derive(Clone, Copy)]
 pub struct Limits {
+    // D: how many stages there are
     pub stages: usize,
+    // P: how many lines and echoes, taken together, a stage has room for
     pub lines: usize,
+    // Q: how many atoms a stage has room for
     pub atoms: usize,
     ghost some_stage: { 1 ≤ stages },
     ghost few_stages: { stages ≤ 32 },
