@@ -56,6 +56,7 @@ module _ (r : Lines) where
         where
           state-same : (s t : ℕ) → Read s ≡ Read t → s ≡ t
           state-same s t q = cc
+
       high : firstWrite r ≤ n → (isNamed r s ≡ true) × (readOf r s ≡ n)
       high le = let (t, k, q) = written r n le h in absurd (apart s t (getD (r .updates) t (Fixed 0)) (sym e ∙ (ap (lineAt r) (sym q) ∙ write-line r t k)))
         where

@@ -19,14 +19,16 @@ pub fill-start : {X : Type 0} (d : X) (f : ℕ → X) (l : List X) → Filled d 
 fill-start d f l = (λ k lt. absurd (omega arith), λ k _. refl)
 
 pub fill-write : {X : Type 0} (d : X) (f : ℕ → X) (old l l′ : List X) (n : ℕ) (v : X) → Filled d f old l n → l′ ≡ set l n v → v ≡ f n → n < length l → Filled d f old l′ (n + 1)
-fill-write d f old l l′ n v h e q lt =
-    (λ k hk. ⊎-elim (λ (s : k ≡ n). ap (λ m. getD m k d) e ∙ (ap (λ i. getD (set l n v) i d) s ∙ (getD-set-same l n v d lt ∙ (q ∙ ap f (sym s))))) (λ ne. ap (λ m. getD m k d) e ∙ (getD-set-other l n k v d ne ∙ h .0 k (omega arith))) (cases-eq k n),
-     λ k hk. let ne : k ≢ n = omega arith in ap (λ m. getD m k d) e ∙ (getD-set-other l n k v d ne ∙ h .1 k (omega arith)))
+fill-write d f old l l′ n v h e q lt = (
+  λ k hk. ⊎-elim (λ (s : k ≡ n). ap (λ m. getD m k d) e ∙ (ap (λ i. getD (set l n v) i d) s ∙ (getD-set-same l n v d lt ∙ (q ∙ ap f (sym s))))) (λ ne. ap (λ m. getD m k d) e ∙ (getD-set-other l n k v d ne ∙ h .0 k (omega arith))) (cases-eq k n),
+  λ k hk. let ne : k ≢ n = omega arith in ap (λ m. getD m k d) e ∙ (getD-set-other l n k v d ne ∙ h .1 k (omega arith)),
+)
 
 pub fill-skip : {X : Type 0} (d : X) (f : ℕ → X) (old l l′ : List X) (n : ℕ) → Filled d f old l n → l′ ≡ l → getD old n d ≡ f n → Filled d f old l′ (n + 1)
-fill-skip d f old l l′ n h e q =
-    (λ k hk. ap (λ m. getD m k d) e ∙ ⊎-elim (λ (s : k ≡ n). ap (λ i. getD l i d) s ∙ (h .1 n (omega arith) ∙ (q ∙ ap f (sym s)))) (λ ne. h .0 k (omega arith)) (cases-eq k n),
-     λ k hk. ap (λ m. getD m k d) e ∙ h .1 k (omega arith))
+fill-skip d f old l l′ n h e q = (
+  λ k hk. ap (λ m. getD m k d) e ∙ ⊎-elim (λ (s : k ≡ n). ap (λ i. getD l i d) s ∙ (h .1 n (omega arith) ∙ (q ∙ ap f (sym s)))) (λ ne. h .0 k (omega arith)) (cases-eq k n),
+  λ k hk. ap (λ m. getD m k d) e ∙ h .1 k (omega arith),
+)
 
 pub some-yes : (p : ℕ → Bool) (n : ℕ) (r : Bool) → r ≡ true → p n ≡ true → r ≡ some-below (n + 1) p
 some-yes p n r e t = rw (add-one n) (e ∙ sym (or-left (p n) (some-below n p) t))

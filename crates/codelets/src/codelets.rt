@@ -8,16 +8,16 @@ ghost use Rattle.std.specs.declared.option.Option.the-variants.{Some, None};
 ghost use Rattle.std.specs.declared.result.Result.the-variants.{Ok, Err};
 ghost use Rattle.graph.specs.Rounds.{some-below};
 ghost use Rattle.codelets.specs.declared.fault.CodeletFault.the-variants.{TwoStates};
-ghost use Rattle.codelets.specs.Codelets.{isNamed, writeOf, meets, inCodelet, Owned, Alone, Coded, Smallest};
+ghost use Rattle.codelets.specs.Codelets.{isNamed, writeOf, meets, inCodelet, isOwner, Owned, Alone, Coded, Smallest};
 ghost use Rattle.codelets.specs.Echoes.{owned, inner};
 use crate::edges::LineGraph;
 use crate::edges::LineGraphGraph;
 use crate::edges::is_plain;
 use crate::fault::CodeletFault;
 use graph::Marks;
-use graph::reach;
 use graph::Turned;
 use graph::TurnedGraph;
+use graph::reach;
 use lines::Line;
 use lines::Lines;
 use word::at;
@@ -33,15 +33,22 @@ pub struct Codelets {
     ghost alone: { Alone lines },
 }
 
+// Whether an owner is state s.
+fn is_owner(owner: Option<usize>, s: usize) -> bool
+    ensures { λ r. ⌜ r ≡ isOwner owner s ⌝ }
+{
+    match owner {
+        Some(t) => t == s,
+        None => false,
+    }
+}
+
 impl Codelets {
     // Whether line n is in state s's codelet.
     pub fn owns(&self, s: usize, n: usize) -> bool
         ensures { λ r. ⌜ r ≡ inCodelet (now (self .entry) .lines) s n ⌝ }
     {
-        match at(&self.owner, n, None) {
-            Some(t) => t == s,
-            None => false,
-        }
+        is_owner(at(&self.owner, n, None), s)
     }
 
     // Whether line n is in some state's codelet; every other line is an outside line.
@@ -135,5 +142,8 @@ pub fn codelets_of(lines: &Lines) -> Result<Codelets, CodeletFault>
             claim(&mut owner, &codelet, s);
         }
     }
-    Ok(Codelets { lines: *lines, owner })
+    Ok(Codelets {
+        lines: *lines,
+        owner,
+    })
 }

@@ -14,11 +14,11 @@ use crate::edges::is_line;
 use crate::edges::reads;
 use graph::Graph;
 use graph::Marks;
-use graph::spread;
 use graph::Turned;
 use graph::TurnedGraph;
 use graph::Within;
 use graph::WithinGraph;
+use graph::spread;
 use lines::Line;
 use lines::Lines;
 use lines::Source;
@@ -105,7 +105,13 @@ fn trace<G: Graph>(g: &G, inside: &Marks, marks: &mut Marks)
     ensures others { λ _. ⌜ ((n : ℕ) → nodes (now (g .entry)) ≤ n → getD (now (marks .exit) .on) n false ≡ getD (now (marks .entry) .on) n false) ⌝ }
 {
     let turned = Turned(g);
-    spread(&Within { graph: &turned, inside }, marks);
+    spread(
+        &Within {
+            graph: &turned,
+            inside,
+        },
+        marks,
+    );
 }
 
 // The inner lines that have an echo: one search over the inner lines alone, from a line to those that it reads.

@@ -127,8 +127,8 @@ module _ (size : ℕ) (edge : ℕ → ℕ → Bool) where
   }
 
   -- where nothing was added, all marks are done, so no edge leaves them
-  pub sweep-all : (old mid new done done′ : List Bool) (x y z : Bool) → z ≡ cond y true x → (x ≡ false → (k : ℕ) → k < size → On mid k → On done k) → Grown size edge mid new y → Done size edge new done′ → ((k : ℕ) → On done k → On done′ k) → z ≡ false → Closed size edge new
-  sweep-all old mid new done done′ x y z e all g d keeps f a lt o =
+  pub sweep-all : (mid new done done′ : List Bool) (x y z : Bool) → z ≡ cond y true x → (x ≡ false → (k : ℕ) → k < size → On mid k → On done k) → Grown size edge mid new y → Done size edge new done′ → ((k : ℕ) → On done k → On done′ k) → z ≡ false → Closed size edge new
+  sweep-all mid new done done′ x y z e all g d keeps f a lt o =
       let t = none-added x y (sym e ∙ f) in d .follows a (keeps a (all (t .0) a lt (subst (λ l. On l a) (g .same (t .1)) o)))
 
   -- the whole search: growth from the starts, until no edge leaves the marks

@@ -100,6 +100,13 @@ fn descend<G: Graph>(g: &G, marks: &mut Marks, done: &mut Marks) -> bool
     added
 }
 
+// Whether one of two sweeps added a mark.
+fn either(up: bool, down: bool) -> bool
+    ensures { λ r. ⌜ r ≡ cond down true up ⌝ }
+{
+    down || up
+}
+
 // One round over all nodes, up and then down, since a graph may have its edges run either way; true exactly where it
 // added a mark. It adds only what a path leads to from the marks, and where it adds none, no edge leaves them.
 fn round<G: Graph>(g: &G, marks: &mut Marks, done: &mut Marks) -> bool
@@ -110,7 +117,7 @@ fn round<G: Graph>(g: &G, marks: &mut Marks, done: &mut Marks) -> bool
 {
     let up = ascend(g, marks, done);
     let down = descend(g, marks, done);
-    down || up
+    either(up, down)
 }
 
 // Marks beside the marked nodes exactly those that a path leads to from one of them.

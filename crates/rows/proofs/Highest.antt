@@ -34,6 +34,7 @@ highest-holds (suc n) p f m lt e = ⊎-elim at (λ ne. below (highest-holds n p 
         let s = le-max-left (cond (p n) (f n) 0) (highest n p f) in
         let r = ap f q in
         omega arith
+
     below : f m ≤ highest n p f → f m ≤ highest (suc n) p f
     below h = let s = le-max-right (cond (p n) (f n) 0) (highest n p f) in omega arith
 

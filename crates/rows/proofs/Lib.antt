@@ -4,3 +4,4 @@ pub mod Ranks
 pub mod Sorting
 pub mod Tops
 pub mod Passing
+pub mod Built

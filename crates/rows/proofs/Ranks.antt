@@ -64,6 +64,7 @@ tally-lt (suc n) p q j h lt off on = ⊎-elim at (λ ne. below (tally-lt n p q j
         let a = ap one (subst (λ m. p m ≡ false) e off) in
         let b = ap one (subst (λ m. q m ≡ true) e on) in
         omega arith
+
     below : tally n p < tally n q → tally (suc n) p < tally (suc n) q
     below t = let s = one-le (p n) (q n) (h n (omega arith)) in omega arith
 

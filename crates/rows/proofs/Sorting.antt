@@ -190,9 +190,10 @@ module _ (r : Lines) where
   asked : {m n : ℕ} → Reads r m n → (isNode r n ≡ true) × (makes r m n ≡ true)
   asked (by-line m n q e) = (ap isSome q, as-line r m (lineAt r n) (outside-unread n q) ∙ e)
   asked (by-echo m n q e) = (ap isSome q, as-line r m (lineAt r n) (echo-unread n q) ∙ e)
-  asked (by-atom m n s i k p c x d) =
-      (ap isSome (atom-sort n s k p),
-       ap (readsAs r m) (ap (lineAt r) (sym p) ∙ read-line r s k) ∙ and-from _ _ (not-from-false _ (false-of (inCodelet r s m) (λ e. d (codelet-decides r s m .0 e)))) (some-decides (readInside r s m) (r .count) .1 (i, path-to (r .count) (edge r) (c .from), and-from _ _ (codelet-decides r s i .1 c) x)))
+  asked (by-atom m n s i k p c x d) = (
+    ap isSome (atom-sort n s k p),
+    ap (readsAs r m) (ap (lineAt r) (sym p) ∙ read-line r s k) ∙ and-from _ _ (not-from-false _ (false-of (inCodelet r s m) (λ e. d (codelet-decides r s m .0 e)))) (some-decides (readInside r s m) (r .count) .1 (i, path-to (r .count) (edge r) (c .from), and-from _ _ (codelet-decides r s i .1 c) x)),
+  )
 
   -- a line that is read from outside its codelet, or by an echo, is a node
   read-node : (m i : ℕ) → i < r .count → readBy r m i ≡ true → ((s : ℕ) → inCodelet r s m ≡ true → inCodelet r s i ≡ false) ⊎ Is-echo r i → isNode r m ≡ true

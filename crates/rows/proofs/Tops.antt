@@ -39,10 +39,10 @@ module _ (r : Lines) (f : ℕ → ℕ) where
   atom-highest s = le-antisymm
       (highest-least (r .count) (inCodelet r s) (λ i. lineTop (outsideOf r s f) (lineAt r i)) top (λ i hi c. top-least (outsideOf r s f) (sourcesOf (lineAt r i)) top (λ m e. ⊎-elim (λ t. omega (arith, cond-true (inCodelet r s m) 0 (f m) t)) (λ t. le-trans (omega (arith, cond-false (inCodelet r s m) 0 (f m) t)) (highest-holds (r .count) (atomReads r s) f m (let lt = lower r m i hi e in omega arith) (and-from _ _ (not-from-false _ t) (some-decides (readInside r s m) (r .count) .1 (i, hi, and-from _ _ c e))))) (cases-bool (inCodelet r s m)))))
       (highest-least (r .count) (atomReads r s) f (atomTop r s f) (λ m hm e. let (a, t) = and-parts (not (inCodelet r s m)) _ e in let (i, hi, u) = some-decides (readInside r s m) (r .count) .0 t in let (c, x) = and-parts (inCodelet r s i) _ u in
-        let o = top-holds (outsideOf r s f) (sourcesOf (lineAt r i)) m x in
-        let w = highest-holds (r .count) (inCodelet r s) (λ i. lineTop (outsideOf r s f) (lineAt r i)) i hi c in
-        let z = cond-false (inCodelet r s m) 0 (f m) (not-true _ a) in
-        omega arith))
+      let o = top-holds (outsideOf r s f) (sourcesOf (lineAt r i)) m x in
+      let w = highest-holds (r .count) (inCodelet r s) (λ i. lineTop (outsideOf r s f) (lineAt r i)) i hi c in
+      let z = cond-false (inCodelet r s m) 0 (f m) (not-true _ a) in
+      omega arith))
     where
       top : ℕ
       top = highest (r .count) (atomReads r s) f

@@ -4,3 +4,4 @@ pub mod Makers
 pub mod Rows
 pub mod Passes
 pub mod Placed
+pub mod Samples

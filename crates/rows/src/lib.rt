@@ -8,3 +8,4 @@ pub use nodes::nodes_of;
 pub use ranking::rows_of;
 pub use theorem::nodes_and_makers;
 pub use theorem::rows_follow_their_rule;
+pub use theorem::samples_stand;

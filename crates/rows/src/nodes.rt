@@ -74,5 +74,9 @@ pub fn nodes_of(c: &Codelets) -> Nodes
 {
     let sort = sorts_of(c);
     let rows = rows_of(c);
-    Nodes { codelets: *c, sort, rows }
+    Nodes {
+        codelets: *c,
+        sort,
+        rows,
+    }
 }

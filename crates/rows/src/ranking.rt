@@ -35,7 +35,10 @@ fn line_top(rows: &[usize; 208], line: Line) -> usize
         Line::Sub(a, b) => source_top(rows, a).max(source_top(rows, b)),
         Line::Less(a, b) => source_top(rows, a).max(source_top(rows, b)),
         Line::Equal(a, b) => source_top(rows, a).max(source_top(rows, b)),
-        Line::Choose(c, a, b) => source_top(rows, c).max(source_top(rows, a).max(source_top(rows, b))),
+        Line::Choose(c, a, b) => source_top(rows, c).max(source_top(rows, a).max(source_top(
+            rows,
+            b,
+        ))),
         Line::Write(_, a) => source_top(rows, a),
     }
 }
@@ -57,7 +60,11 @@ fn outside(c: &Codelets, s: usize, rows: &[usize; 208]) -> [usize; 208]
 fn part_top(c: &Codelets, s: usize, rows: &[usize; 208], i: usize) -> usize
     ensures { λ r. ⌜ r ≡ cond (inCodelet (now (c .entry) .lines) s i) (lineTop (rowAt (now (rows .entry))) (lineAt (now (c .entry) .lines) i)) 0 ⌝ }
 {
-    if c.owns(s, i) { line_top(rows, at(&c.lines.lines, i, Line::Read(0))) } else { 0 }
+    if c.owns(s, i) {
+        line_top(rows, at(&c.lines.lines, i, Line::Read(0)))
+    } else {
+        0
+    }
 }
 
 // The highest number that a line of state s's codelet reads from outside, or 0.

@@ -17,10 +17,10 @@ pub loop-s-again : need.loop-s-again
 loop-s-again c =
     elim (c .if-at .came) [
       | then-at·else-shared w ↦
-        let on : ℕ → Bool = λ n. getD (w .of-codelet .result .to .on) n false && getD (w .of-codelet .result .back .on) n false in
-        let named : isNamed (c .args .lines .now) (c .loop-s .s) ≡ true = sym (c .at .ensures) ∙ w .if-at .taken in
-        let found : (n : ℕ) → on n ≡ meets (c .args .lines .now) (writeOf (c .args .lines .now) (c .loop-s .s)) n = subst (λ m. (n : ℕ) → on n ≡ meets (c .args .lines .now) m n) (w .at-then-at .ensures) (w .of-codelet .ensures) in
-        below-named (c .args .lines .now) (c .loop-s .s) named (sym (shared-crowded (c .args .lines .now) (c .loop-s .s) on named found) ∙ (sym (w .shared .ensures) ∙ w .if-shared .left)) (c .loop-s .owner) (c .if-at .owner) on (ap length (w .owner-is) ∙ w .claim .array-long) found (c .loop-s .inv) (λ n h. ap (λ l. getD l n None) (w .owner-is) ∙ w .claim .ensures n h)
+          let on : ℕ → Bool = λ n. getD (w .of-codelet .result .to .on) n false && getD (w .of-codelet .result .back .on) n false in
+          let named : isNamed (c .args .lines .now) (c .loop-s .s) ≡ true = sym (c .at .ensures) ∙ w .if-at .taken in
+          let found : (n : ℕ) → on n ≡ meets (c .args .lines .now) (writeOf (c .args .lines .now) (c .loop-s .s)) n = subst (λ m. (n : ℕ) → on n ≡ meets (c .args .lines .now) m n) (w .at-then-at .ensures) (w .of-codelet .ensures) in
+          below-named (c .args .lines .now) (c .loop-s .s) named (sym (shared-crowded (c .args .lines .now) (c .loop-s .s) on named found) ∙ (sym (w .shared .ensures) ∙ w .if-shared .left)) (c .loop-s .owner) (c .if-at .owner) on (ap length (w .owner-is) ∙ w .claim .array-long) found (c .loop-s .inv) (λ n h. ap (λ l. getD l n None) (w .owner-is) ∙ w .claim .ensures n h)
       | else-at w ↦ below-unnamed (c .args .lines .now) (c .loop-s .s) _ _ (w .owner-is) (sym (c .at .ensures) ∙ w .if-at .left) (c .loop-s .inv)
     ]
 
