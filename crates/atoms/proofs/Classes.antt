@@ -1,7 +1,6 @@
 -- What an update's operation or fork says of the classes. Assumes nothing.
-use mathlib.Core.Path.{_≡_, refl, sym, ap, ap₂, _∙_}
+use mathlib.Core.Path.{_≡_, refl, sym, ap, _∙_}
 use mathlib.Core.Bool.{Bool, true, false, cond, _&&_, _||_}
-use mathlib.Core.List.{List}
 use Rattle.std.specs.declared.option.Option.{Option}
 use Rattle.std.specs.declared.option.Option.the-variants.{Some, None}
 use Rattle.lines.specs.declared.line.Source.{Source}
@@ -15,7 +14,7 @@ use Rattle.resolving.specs.declared.leaf.Operation.the-variants.{Set, Add as To
 use Rattle.resolving.specs.declared.leaf.Predicate.{Predicate}
 use Rattle.resolving.specs.declared.leaf.Predicate.the-variants.{True, Less as IsLess, Equal as IsEqual}
 use Rattle.resolving.specs.declared.fork.Fork.{Fork}
-use Rattle.resolving.specs.Classes.{isSum, isDifference, isComparison, isPredicate, sumOf, differenceOf, operationIn, operationOf, comparisonOf, comparisonIn, predicateAt, forkOn, forkIn, forkOf}
+use Rattle.resolving.specs.Classes.{isSum, isDifference, isComparison, isPredicate, operationIn, operationOf, comparisonIn, predicateAt, forkOn, forkIn, forkOf}
 use Rattle.resolving.specs.Codelets.{innerLine}
 use Rattle.resolving.specs.Leaves.{isOld, isLeaf, isOther, leafOf}
 use Rattle.resolving.specs.Resolving.{table, resolvedTo}

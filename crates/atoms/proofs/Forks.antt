@@ -2,14 +2,14 @@
 use mathlib.Core.Path.{_≡_, refl, sym, ap, ap₂, subst, _∙_}
 use mathlib.Core.Bool.{Bool, true, false, cond, _&&_}
 use mathlib.Core.List.{List, [], _∷_}
-use Prim.Native.Nat.{ℕ, zero, suc, _+_, _*_, _-_, _<_, _≤_}
+use Prim.Native.Nat.{ℕ, zero, suc, _+_, _*_, _-_, _≤_}
 use native.Mathlib.Omega.{arith}
 use borrow.Rule.Slice.PartMut.{putMid}
 use lib.ListN.{getD, length, set, take, drop}
 use Rattle.std.specs.declared.option.Option.{Option}
 use Rattle.std.specs.declared.option.Option.the-variants.{Some, None}
 use Rattle.std.proofs.shelf.Tests.{and-parts}
-use Rattle.word.specs.Words.{Word, truth, lessThan, equalTo, chosen}
+use Rattle.word.specs.Words.{truth, lessThan, equalTo, chosen}
 use Rattle.lines.specs.declared.line.Source.{Source}
 use Rattle.lines.specs.declared.line.Source.the-variants.{Field, Line as Made, Constant}
 use Rattle.lines.specs.declared.line.Line.{Line}
@@ -28,7 +28,7 @@ use Rattle.resolving.specs.Resolving.{table, resolvedTo}
 use Rattle.resolving.specs.Sameness.{Agrees, Holds, decide}
 use Rattle.resolving.proofs.Keeps.{keeps-values}
 use Rattle.atoms.specs.Kinds.{choiceRan}
-use Rattle.atoms.specs.Rightness.{Brings, Each, Carries, Right}
+use Rattle.atoms.specs.Rightness.{Brings, Each, Right}
 use Rattle.atoms.specs.Settings.{predicateFrom}
 use Rattle.atoms.proofs.Carried.{resolved-reaches}
 use Rattle.atoms.proofs.Parts.{first-length, first-head, first-part, second-head, second-keeps, second-part, same-predicate}

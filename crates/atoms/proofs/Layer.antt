@@ -1,13 +1,13 @@
 -- What the layer writes, as the atom below writes its parts. Assumes nothing.
-use mathlib.Core.Path.{_≡_, refl, sym, ap, subst, _∙_}
-use mathlib.Core.Bool.{Bool, true, false, _&&_}
+use mathlib.Core.Path.{_≡_, sym, _∙_}
+use mathlib.Core.Bool.{Bool, true, false}
 use mathlib.Core.List.{List}
-use Prim.Native.Nat.{ℕ, _+_, _-_, _*_, _<_, _≤_, min}
+use Prim.Native.Nat.{ℕ, _+_, _-_, _*_, _<_, _≤_}
 use native.Mathlib.Omega.{arith}
 use borrow.Rule.Slice.PartMut.{putMid}
 use lib.ListN.{length, take, drop}
 use Rattle.std.specs.declared.option.Option.the-variants.{Some}
-use Rattle.std.proofs.shelf.Tests.{true≢false, both-ways, or-left, and-from, and-parts, ltb-true, leb-true, lt-ltb, le-leb}
+use Rattle.std.proofs.shelf.Tests.{both-ways, or-left, and-from, and-parts, ltb-true, leb-true, lt-ltb, le-leb}
 use Rattle.word.specs.Words.{top}
 use Rattle.lines.specs.declared.line.Source.{Source}
 use Rattle.resolving.specs.declared.codelet.Codelet.{Codelet}

@@ -1,5 +1,5 @@
 -- The operation that an update is gives the update's value. Assumes nothing.
-use mathlib.Core.Path.{_≡_, refl, sym, ap, subst, _∙_}
+use mathlib.Core.Path.{_≡_, refl, sym, ap, _∙_}
 use mathlib.Core.Bool.{Bool, true, false, cond, not, _&&_}
 use mathlib.Core.List.{List}
 use Prim.Native.Nat.{ℕ}
@@ -22,7 +22,7 @@ use Rattle.resolving.specs.Reads.{readBy}
 use Rattle.resolving.specs.Resolving.{table, resolvedTo}
 use Rattle.resolving.specs.Sameness.{Holds}
 use Rattle.resolving.proofs.Keeps.{keeps-values}
-use Rattle.atoms.specs.Rightness.{Brings, Each, Carries, Right}
+use Rattle.atoms.specs.Rightness.{Brings, Each, Right}
 use Rattle.atoms.specs.Settings.{operationFrom}
 use Rattle.atoms.proofs.Carried.{resolved-reaches}
 use Rattle.atoms.proofs.Values.{If-some, at-some, leaf-word, old-value, leaf-gives}

@@ -13,7 +13,7 @@ use Rattle.resolving.specs.declared.codelet.Codelet.{Codelet}
 use Rattle.resolving.specs.declared.packet.Packet.{Packet}
 use Rattle.resolving.specs.declared.leaf.Leaf.the-variants.{Old, Line as L-Line}
 use Rattle.resolving.specs.Codelets.{value, Words, Satisfies}
-use Rattle.resolving.specs.Leaves.{isOld, isLeaf, isOther, leafOf, leafValue, NamesWord}
+use Rattle.resolving.specs.Leaves.{isOld, isLeaf, leafOf, leafValue, NamesWord}
 use Rattle.atoms.specs.Rightness.{Brings}
 
 -- of what there is, where there is something

@@ -1,6 +1,5 @@
 // The numbers of a setting, read and written. Every list of numbers says something, also one that no fit made.
 ghost use mathlib.Core.Path.{_≡_};
-ghost use mathlib.Core.Bool.{Bool, true, false};
 ghost use Prim.Native.Nat.{_<_, _≤_};
 ghost use lib.ListN.{length, take, drop};
 ghost use Rattle.atoms.specs.Settings.{leafFrom, leafAt, leafNumbers, operationFrom, predicateFrom, hasRoom};

@@ -7,13 +7,13 @@ use Rattle.std.specs.declared.option.Option.{Option}
 use Rattle.std.specs.declared.option.Option.the-variants.{Some, None}
 use Rattle.std.proofs.shelf.Tests.{and-parts, false≢true}
 use Rattle.lines.specs.declared.line.Source.{Source}
-use Rattle.lines.specs.declared.line.Source.the-variants.{Field, Line as Made, Constant}
+use Rattle.lines.specs.declared.line.Source.the-variants.{Line as Made}
 use Rattle.lines.specs.declared.line.Line.{Line}
 use Rattle.lines.specs.declared.line.Line.the-variants.{Read, Copy, Add, Sub, Less, Equal, Choose, Write}
 use Rattle.resolving.specs.declared.codelet.Codelet.{Codelet}
 use Rattle.resolving.specs.declared.decided.Decided.{Decided}
 use Rattle.resolving.specs.Codelets.{lineAt, isInner}
-use Rattle.resolving.specs.Reads.{readBy, isBefore, areBefore}
+use Rattle.resolving.specs.Reads.{readBy, areBefore}
 use Rattle.resolving.specs.Resolving.{isEnd, found, arm, through, table, resolvedTo, Resolves}
 use Rattle.resolving.specs.Sameness.{decidedAs}
 use Rattle.resolving.proofs.Before.{lower-at}

@@ -6,7 +6,6 @@ use lib.ListN.{getD, replicate}
 use Rattle.std.specs.declared.option.Option.{Option}
 use Rattle.std.specs.declared.option.Option.the-variants.{None}
 use Rattle.lines.specs.declared.line.Source.the-variants.{Field, Line as Made, Constant}
-use Rattle.resolving.specs.declared.packet.Packet.{Packet}
 use Rattle.resolving.specs.Codelets.{value}
 use Rattle.resolving.specs.Sameness.{undecided, Agrees, HoldsOfAll}
 

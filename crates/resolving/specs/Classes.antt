@@ -1,7 +1,6 @@
 -- What an update is: a leaf, an operation on the old word, or a choice on a predicate. Assumes nothing.
-use mathlib.Core.Bool.{Bool, true, false, cond, _&&_, _||_}
+use mathlib.Core.Bool.{Bool, false, cond, _&&_, _||_}
 use mathlib.Core.List.{List}
-use Prim.Native.Nat.{ℕ}
 use Rattle.std.specs.declared.option.Option.{Option}
 use Rattle.std.specs.declared.option.Option.the-variants.{Some, None}
 use Rattle.lines.specs.declared.line.Source.{Source}
@@ -18,7 +17,6 @@ use Rattle.resolving.specs.declared.fork.Fork.{Fork}
 use Rattle.resolving.specs.Codelets.{innerLine}
 use Rattle.resolving.specs.Leaves.{isOld, isLeaf, isOther, leafOf}
 use Rattle.resolving.specs.Resolving.{found, table, resolvedTo}
-use Rattle.resolving.specs.Sameness.{decide}
 
 -- IN THE SUBJECT'S WORDS. Every source is resolved under the decided conditions first.
 -- old + v or v + old, for a leaf v other than the old word

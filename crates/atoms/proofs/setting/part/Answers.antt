@@ -1,4 +1,4 @@
-use mathlib.Core.Path.{_≡_, ap}
+use mathlib.Core.Path.{ap}
 use Prim.Native.Nat.{_+_}
 use Rattle.atoms.proofs.Parts.{part-is}
 use Rattle.atoms.proofs.setting.part.Needs as need

@@ -1,4 +1,4 @@
-use mathlib.Core.Path.{sym, ap, _∙_}
+use mathlib.Core.Path.{ap, _∙_}
 use Rattle.atoms.proofs.Classes.{is-some, subtract-takes}
 use Rattle.atoms.proofs.subtract.SubtractAtom.class.Needs as need
 
