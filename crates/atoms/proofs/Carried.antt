@@ -17,13 +17,13 @@ use Rattle.lines.specs.declared.line.Line.the-variants.{Read, Copy, Add, Sub, L
 use Rattle.resolving.specs.declared.codelet.Codelet.{Codelet}
 use Rattle.resolving.specs.declared.decided.Decided.{Decided}
 use Rattle.resolving.specs.Codelets.{lineAt, isInner}
-use Rattle.resolving.specs.Reads.{readBy}
+use Rattle.lines.specs.Layout.{sourcesOf}
 use Rattle.resolving.specs.Resolving.{found, arm, through, resolvedLine, table, resolvedTo}
 use Rattle.resolving.specs.Sameness.{decidedAs}
 use Rattle.resolving.proofs.Tables.{table-length}
 use Rattle.atoms.specs.Rightness.{Each}
 
-module _ (cod : Codelet) (d : Decided) (P : Source → Type 0) (inner : (n : ℕ) → isInner cod n ≡ true → Each P (readBy (lineAt cod n))) where
+module _ (cod : Codelet) (d : Decided) (P : Source → Type 0) (inner : (n : ℕ) → isInner cod n ≡ true → Each P (sourcesOf (lineAt cod n))) where
   abbrev Reaching : List Source → Type 0
   Reaching t = (m : ℕ) → P (Made m) → P (getD t m (Made m))
 
@@ -37,7 +37,7 @@ module _ (cod : Codelet) (d : Decided) (P : Source → Type 0) (inner : (n : ℕ
   arm-reaches (Some true) a b itself x y z = x
   arm-reaches (Some false) a b itself x y z = y
 
-  through-reaches : (t : List Source) → Reaching t → (n : ℕ) (l : Line) → Each P (readBy l) → P (Made n) → P (through d t n l)
+  through-reaches : (t : List Source) → Reaching t → (n : ℕ) (l : Line) → Each P (sourcesOf l) → P (Made n) → P (through d t n l)
   through-reaches t k n (Read s) e h = h
   through-reaches t k n (Copy a) e h = found-reaches t k a (e .0)
   through-reaches t k n (Add a b) e h = h
@@ -51,7 +51,7 @@ module _ (cod : Codelet) (d : Decided) (P : Source → Type 0) (inner : (n : ℕ
   line-reaches : (t : List Source) → Reaching t → (n : ℕ) → P (Made n) → P (resolvedLine cod d t n)
   line-reaches t k n h = go (isInner cod n) (inner n)
     where
-      go : (b : Bool) → (b ≡ true → Each P (readBy (lineAt cod n))) → P (cond b (through d t n (lineAt cod n)) (Made n))
+      go : (b : Bool) → (b ≡ true → Each P (sourcesOf (lineAt cod n))) → P (cond b (through d t n (lineAt cod n)) (Made n))
       go true e = through-reaches t k n (lineAt cod n) (e refl) h
       go false e = h
 

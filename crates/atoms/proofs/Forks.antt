@@ -23,7 +23,7 @@ use Rattle.resolving.specs.declared.packet.Packet.{Packet}
 use Rattle.resolving.specs.Classes.{comparisonIn, predicateAt, forkOn, forkIn, forkOf}
 use Rattle.resolving.specs.Codelets.{lineAt, isInner, innerLine, value, makes, Satisfies}
 use Rattle.resolving.specs.Leaves.{isLeaf, leafOf, leafValue, holdsAt}
-use Rattle.resolving.specs.Reads.{readBy}
+use Rattle.lines.specs.Layout.{sourcesOf}
 use Rattle.resolving.specs.Resolving.{table, resolvedTo}
 use Rattle.resolving.specs.Sameness.{Agrees, Holds, decide}
 use Rattle.resolving.proofs.Keeps.{keeps-values}
@@ -52,7 +52,7 @@ decide-holds p d (Made n) b e h (Constant w) = h (Constant w)
 decide-holds p d (Constant n) b e h x = h x
 
 -- FORKS
-module _ (plus minus : ℕ → ℕ → ℕ) (cod : Codelet) (d : Decided) (old : ℕ) (all packet : Packet) (sat : Satisfies plus minus cod old all) (holds : Holds d all) (inner : (n : ℕ) → isInner cod n ≡ true → Each (Brings cod all packet) (readBy (lineAt cod n))) where
+module _ (plus minus : ℕ → ℕ → ℕ) (cod : Codelet) (d : Decided) (old : ℕ) (all packet : Packet) (sat : Satisfies plus minus cod old all) (holds : Holds d all) (inner : (n : ℕ) → isInner cod n ≡ true → Each (Brings cod all packet) (sourcesOf (lineAt cod n))) where
   -- a predicate is true where the value v is
   abbrev Tests : ℕ → Predicate → Type 0
   Tests v p = holdsAt p old packet ≡ truth v
@@ -84,7 +84,7 @@ module _ (plus minus : ℕ → ℕ → ℕ) (cod : Codelet) (d : Decided) (old :
       ap truth (ap₂ equalTo (leaf-of x (p .0) bx) (leaf-of y (p .1) by) ∙ sym e)
   equal-tests x y v false h e bx by = tt
 
-  line-tests : (v : ℕ) (l : Line) → v ≡ makes plus minus all old l → Each (Brings cod all packet) (readBy l) → If-some (comparisonIn cod (table cod d 208) (Some l)) (Tests v)
+  line-tests : (v : ℕ) (l : Line) → v ≡ makes plus minus all old l → Each (Brings cod all packet) (sourcesOf l) → If-some (comparisonIn cod (table cod d 208) (Some l)) (Tests v)
   line-tests v (Read s) e b = tt
   line-tests v (Copy a) e b = tt
   line-tests v (Add x y) e b = tt
@@ -114,7 +114,7 @@ module _ (plus minus : ℕ → ℕ → ℕ) (cod : Codelet) (d : Decided) (old :
   on-picks v c a b None e x y h = tt
   on-picks v c a b (Some p) e x y h = record { picks = e; tests = h; first = x; second = y }
 
-  line-picks : (v : ℕ) (l : Line) → v ≡ makes plus minus all old l → Each (Brings cod all packet) (readBy l) → If-some (forkIn cod (table cod d 208) (Some l)) (Picks v)
+  line-picks : (v : ℕ) (l : Line) → v ≡ makes plus minus all old l → Each (Brings cod all packet) (sourcesOf l) → If-some (forkIn cod (table cod d 208) (Some l)) (Picks v)
   line-picks v (Read s) e b = tt
   line-picks v (Copy a) e b = tt
   line-picks v (Add x y) e b = tt

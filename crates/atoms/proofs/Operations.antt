@@ -18,7 +18,7 @@ use Rattle.resolving.specs.declared.leaf.Operation.the-variants.{Set, Add as To
 use Rattle.resolving.specs.Classes.{sumOf, differenceOf, operationIn, operationAt, operationOf}
 use Rattle.resolving.specs.Codelets.{lineAt, isInner, innerLine, value, makes, Words, Satisfies}
 use Rattle.resolving.specs.Leaves.{isOld, isLeaf, isOther, leafOf, leafValue, NamesWord, operand, result}
-use Rattle.resolving.specs.Reads.{readBy}
+use Rattle.lines.specs.Layout.{sourcesOf}
 use Rattle.resolving.specs.Resolving.{table, resolvedTo}
 use Rattle.resolving.specs.Sameness.{Holds}
 use Rattle.resolving.proofs.Keeps.{keeps-values}
@@ -28,7 +28,7 @@ use Rattle.atoms.proofs.Carried.{resolved-reaches}
 use Rattle.atoms.proofs.Values.{If-some, at-some, leaf-word, old-value, leaf-gives}
 
 module _ (plus minus : ℕ → ℕ → ℕ) (swap : (a b : ℕ) → Word a → Word b → plus a b ≡ plus b a) (cod : Codelet) (d : Decided) where
-  module _ (old : ℕ) (all packet : Packet) (word : Word old) (words : Words all) (sat : Satisfies plus minus cod old all) (holds : Holds d all) (inner : (n : ℕ) → isInner cod n ≡ true → Each (Brings cod all packet) (readBy (lineAt cod n))) where
+  module _ (old : ℕ) (all packet : Packet) (word : Word old) (words : Words all) (sat : Satisfies plus minus cod old all) (holds : Holds d all) (inner : (n : ℕ) → isInner cod n ≡ true → Each (Brings cod all packet) (sourcesOf (lineAt cod n))) where
     -- an operation makes v of the old word
     abbrev Gives : ℕ → Operation → Type 0
     Gives v o = NamesWord (operand o) → result plus minus o old packet ≡ v
@@ -69,7 +69,7 @@ module _ (plus minus : ℕ → ℕ → ℕ) (swap : (a b : ℕ) → Word a → W
     brings : (a : Source) → Brings cod all packet a → Brings cod all packet (resolvedTo cod d a)
     brings a = resolved-reaches cod d (Brings cod all packet) inner a
 
-    line-gives : (v : ℕ) (l : Line) → v ≡ makes plus minus all old l → Each (Brings cod all packet) (readBy l) → If-some (operationIn cod (table cod d 208) (Some l)) (Gives v)
+    line-gives : (v : ℕ) (l : Line) → v ≡ makes plus minus all old l → Each (Brings cod all packet) (sourcesOf l) → If-some (operationIn cod (table cod d 208) (Some l)) (Gives v)
     line-gives v (Read s) e b = tt
     line-gives v (Copy a) e b = tt
     line-gives v (Add x y) e b = sum-gives (resolvedTo cod d x) (resolvedTo cod d y) v (e ∙ sym (rw (keeps x, keeps y) refl)) (brings x (b .0)) (brings y (b .1 .0))

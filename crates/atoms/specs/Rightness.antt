@@ -10,7 +10,7 @@ use Rattle.resolving.specs.declared.decided.Decided.{Decided}
 use Rattle.resolving.specs.declared.packet.Packet.{Packet}
 use Rattle.resolving.specs.Codelets.{lineAt, isInner, value, Words, Satisfies}
 use Rattle.resolving.specs.Leaves.{isOther}
-use Rattle.resolving.specs.Reads.{readBy}
+use Rattle.lines.specs.Layout.{sourcesOf}
 use Rattle.resolving.specs.Sameness.{Holds}
 
 -- the packet carries a source's value, where that comes from outside the codelet
@@ -24,7 +24,7 @@ Each P (a ∷ rest) = P a × Each P rest
 -- the packet carries the outside values that the codelet's lines read: the inner lines, and for the update the write line
 pub record Carries (cod : Codelet) (update : Source) (all packet : Packet) : Type 0 where
   pub written : Brings cod all packet update
-  pub inner : (n : ℕ) → isInner cod n ≡ true → Each (Brings cod all packet) (readBy (lineAt cod n))
+  pub inner : (n : ℕ) → isInner cod n ≡ true → Each (Brings cod all packet) (sourcesOf (lineAt cod n))
 
 -- With this setting the run gives the update's value: for every old word, every valuation of words that satisfies the
 -- codelet's lines and in which the decided conditions hold, and every packet that carries what the lines read.

@@ -13,7 +13,8 @@ use Rattle.lines.specs.declared.line.Line.the-variants.{Read, Copy, Add, Sub, L
 use Rattle.resolving.specs.declared.codelet.Codelet.{Codelet}
 use Rattle.resolving.specs.declared.decided.Decided.{Decided}
 use Rattle.resolving.specs.Codelets.{lineAt, isInner}
-use Rattle.resolving.specs.Reads.{readBy, areBefore}
+use Rattle.lines.specs.Layout.{sourcesOf}
+use Rattle.resolving.specs.Reads.{areBefore}
 use Rattle.resolving.specs.Resolving.{isEnd, found, arm, through, table, resolvedTo, Resolves}
 use Rattle.resolving.specs.Sameness.{decidedAs}
 use Rattle.resolving.proofs.Before.{lower-at}
@@ -21,10 +22,10 @@ use Rattle.resolving.proofs.Tables.{found-before, inner-entry, outside-entry}
 
 module _ (cod : Codelet) (d : Decided) where
   -- an inner line reads lower lines
-  pub lower : (n : ℕ) (l : Line) → isInner cod n ≡ true → lineAt cod n ≡ l → areBefore n (readBy l) ≡ true
+  pub lower : (n : ℕ) (l : Line) → isInner cod n ≡ true → lineAt cod n ≡ l → areBefore n (sourcesOf l) ≡ true
   lower n l i e =
       let z : 0 + n ≡ n = omega arith in
-      subst (λ m. areBefore m (readBy l) ≡ true) z (ap (λ k. areBefore (0 + n) (readBy k)) (sym e) ∙ lower-at 0 (cod .lines) (cod .inner) n (cod .lower) i)
+      subst (λ m. areBefore m (sourcesOf l) ≡ true) z (ap (λ k. areBefore (0 + n) (sourcesOf k)) (sym e) ∙ lower-at 0 (cod .lines) (cod .inner) n (cod .lower) i)
 
   end-entry : (n : ℕ) (l : Line) → isEnd l ≡ true → through d (table cod d n) n l ≡ Made n
   end-entry n (Read s) e = refl

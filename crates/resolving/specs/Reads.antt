@@ -6,18 +6,7 @@ use lib.Dec.{ltb}
 use Rattle.lines.specs.declared.line.Source.{Source}
 use Rattle.lines.specs.declared.line.Source.the-variants.{Field, Line as Made, Constant}
 use Rattle.lines.specs.declared.line.Line.{Line}
-use Rattle.lines.specs.declared.line.Line.the-variants.{Read, Copy, Add, Sub, Less, Equal, Choose, Write}
-
--- the sources of a line, in order
-abbrev pub readBy : Line → List Source
-readBy (Read s) = []
-readBy (Copy a) = a ∷ []
-readBy (Add a b) = a ∷ b ∷ []
-readBy (Sub a b) = a ∷ b ∷ []
-readBy (Less a b) = a ∷ b ∷ []
-readBy (Equal a b) = a ∷ b ∷ []
-readBy (Choose c a b) = c ∷ a ∷ b ∷ []
-readBy (Write s a) = a ∷ []
+use Rattle.lines.specs.Layout.{sourcesOf}
 
 -- a source is no line from n on
 abbrev pub isBefore : ℕ → Source → Bool
@@ -33,5 +22,5 @@ areBefore n (a ∷ rest) = isBefore n a && areBefore n rest
 abbrev pub lowerFrom : ℕ → List Line → List Bool → Bool
 lowerFrom n [] marks = true
 lowerFrom n (l ∷ ls) [] = true
-lowerFrom n (l ∷ ls) (true ∷ marks) = areBefore n (readBy l) && lowerFrom (suc n) ls marks
+lowerFrom n (l ∷ ls) (true ∷ marks) = areBefore n (sourcesOf l) && lowerFrom (suc n) ls marks
 lowerFrom n (l ∷ ls) (false ∷ marks) = lowerFrom (suc n) ls marks
