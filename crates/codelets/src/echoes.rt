@@ -105,13 +105,11 @@ fn trace<G: Graph>(g: &G, inside: &Marks, marks: &mut Marks)
     ensures others { λ _. ⌜ ((n : ℕ) → nodes (now (g .entry)) ≤ n → getD (now (marks .exit) .on) n false ≡ getD (now (marks .entry) .on) n false) ⌝ }
 {
     let turned = Turned(g);
-    spread(
-        &Within {
-            graph: &turned,
-            inside,
-        },
-        marks,
-    );
+    let part = Within {
+        graph: &turned,
+        inside,
+    };
+    spread(&part, marks);
 }
 
 // The inner lines that have an echo: one search over the inner lines alone, from a line to those that it reads.

@@ -35,10 +35,10 @@ fn line_top(rows: &[usize; 208], line: Line) -> usize
         Line::Sub(a, b) => source_top(rows, a).max(source_top(rows, b)),
         Line::Less(a, b) => source_top(rows, a).max(source_top(rows, b)),
         Line::Equal(a, b) => source_top(rows, a).max(source_top(rows, b)),
-        Line::Choose(c, a, b) => source_top(rows, c).max(source_top(rows, a).max(source_top(
-            rows,
-            b,
-        ))),
+        Line::Choose(c, a, b) => {
+            let arms = source_top(rows, a).max(source_top(rows, b));
+            source_top(rows, c).max(arms)
+        }
         Line::Write(_, a) => source_top(rows, a),
     }
 }
