@@ -1,4 +1,6 @@
 // Examples of atoms at work.
+#![tactic(auto)]
+
 #[cfg(test)]
 mod tests {
     use atoms::{Add, Atom, ReadWrite, Subtract};

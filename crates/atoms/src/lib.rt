@@ -1,4 +1,6 @@
 // Atoms: the circuits that update one kept word in one clock.
+#![tactic(auto)]
+
 mod add;
 mod atom;
 mod read_write;

@@ -4,6 +4,8 @@
 // choices on an atom that adds and subtracts, with sums that wrap, for at most 30 stages with room for 10 lines and echoes
 // and for 8 atoms each. The answer is one line: `accepted` and the number of stages, or `refused`, the number of the
 // refusal and its place.
+#![tactic(auto)]
+
 use atoms::Subtract;
 use choice::Choice;
 use compiler::compile;

@@ -1,4 +1,6 @@
 // The serial book of a machine, the serial run that it stands on, and what it is for a machine to agree with the book.
+#![tactic(auto)]
+
 mod example;
 mod theorem;
 

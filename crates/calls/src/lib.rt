@@ -1,4 +1,6 @@
 // Lists of calls on a machine.
+#![tactic(auto)]
+
 mod call;
 mod run;
 mod service;

@@ -1,4 +1,6 @@
 // Codelets: the lines that hang together with a state's update.
+#![tactic(auto)]
+
 mod codelets;
 mod fault;
 mod theorem;

@@ -1,4 +1,6 @@
 // The compiler: from the bytes of an image to a plan, or to the refusal that it deserves.
+#![tactic(auto)]
+
 mod fault;
 mod planning;
 mod settings;

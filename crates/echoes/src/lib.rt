@@ -1,4 +1,6 @@
 // The echoes of inner lines.
+#![tactic(auto)]
+
 mod search;
 mod theorem;
 

@@ -1,4 +1,6 @@
 // Graphs as a question, whether an edge runs from one node to another, and the one search that serves them all.
+#![tactic(auto)]
+
 ghost use Rattle.std.specs.Prelude.{◌≡◌, ℕ, ◌≤◌, Bool};
 ghost use Rattle.graph.specs.Paths.{PathsCompose, PathsTurn};
 ghost use Rattle.graph.specs.Rounds.{RoundsDecidePaths, LedDecidesPaths, ClosureDecidesPaths};

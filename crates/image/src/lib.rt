@@ -1,4 +1,6 @@
 // The image of a transaction, read.
+#![tactic(auto)]
+
 mod reader;
 mod theorem;
 

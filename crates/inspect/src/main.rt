@@ -1,4 +1,6 @@
 // Reads images, one in hexadecimal to each line of standard input, and writes for each its statements or why it is refused.
+#![tactic(auto)]
+
 use image::read_image;
 use std::alloc::{AllocError, Global};
 use std::io;

@@ -1,4 +1,6 @@
 // Lines: a transaction without branches, with the same meaning.
+#![tactic(auto)]
+
 mod build;
 mod builder;
 mod examples;

@@ -1,4 +1,6 @@
 // Machines: pipelines of packets that carry plans out.
+#![tactic(auto)]
+
 mod fault;
 mod feed;
 mod machine;

@@ -1,4 +1,5 @@
 // Images compiled, and machines at work on them.
+#![tactic(auto)]
 
 #[cfg(test)]
 mod compiled;

@@ -1,4 +1,6 @@
 // The serial meaning of a transaction, and running one alone.
+#![tactic(auto)]
+
 mod fault;
 mod packet;
 mod serial;

@@ -2,6 +2,8 @@
 //
 // Each line of standard input is an image in hexadecimal, without blanks in it, and the limits in decimal: the number of
 // stages, of lines and echoes to a stage, and of atoms to a stage. Each is answered by one line of output.
+#![tactic(auto)]
+
 use image::read_image;
 use lines::{Line, lines_of};
 use placement::{Placement, place_lines};

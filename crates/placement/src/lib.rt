@@ -1,4 +1,6 @@
 // Placement: the stage of every node of a transaction.
+#![tactic(auto)]
+
 mod fault;
 mod place;
 mod placed;

@@ -3,6 +3,8 @@
 // Standard input, the atoms and the limits are those of the program `batch`, and so is the first line of the answer. Where
 // the image is accepted, a line follows for each stage, with its lines and echoes by number and then its atoms by state,
 // and a line for each named state, with the numbers of its setting.
+#![tactic(auto)]
+
 use atoms::{Atom, Subtract};
 use choice::Choice;
 use compiler::compile;

@@ -1,4 +1,6 @@
 // Plans: where each node of a transaction stands and what each atom does, and the pipeline that carries it out.
+#![tactic(auto)]
+
 mod idle;
 mod plan;
 mod theorem;

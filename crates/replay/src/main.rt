@@ -3,6 +3,8 @@
 // Each line of standard input is one call: `start HEX D P Q`, `feed W ..`, `tick`, `take` or `take N`, `peek S`. Each is
 // answered by one line. The arguments choose the arithmetic and the atoms, as `clamp choice add`; the word `trace` has the
 // places drawn after each tick.
+#![tactic(auto)]
+
 use atoms::{Add, Atom, ReadWrite, Subtract};
 use choice::Choice;
 use machine::{Machine, MachineFault};

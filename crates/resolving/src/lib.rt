@@ -1,4 +1,6 @@
 // What an atom is asked to do: a codelet's update, resolved under decided conditions.
+#![tactic(auto)]
+
 mod codelet;
 mod decided;
 mod deciding;

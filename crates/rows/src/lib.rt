@@ -1,4 +1,6 @@
 // Rows: the nodes of a transaction, and how many makers deep each one reads.
+#![tactic(auto)]
+
 mod nodes;
 mod ranking;
 mod theorem;

@@ -1,4 +1,6 @@
 // Schedules: the nodes of each stage, one after another.
+#![tactic(auto)]
+
 mod schedule;
 mod theorem;
 

@@ -2,6 +2,8 @@
 //
 // Standard input is text: the first line is an image in hexadecimal, each further line one packet's fields in decimal.
 // Each line of input is answered by one line of output. The word `clamp` as an argument chooses the clamping arithmetic.
+#![tactic(auto)]
+
 use image::read_image;
 use meaning::run;
 use std::alloc::{AllocError, Global};

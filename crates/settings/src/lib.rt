@@ -1,4 +1,6 @@
 // The settings of atoms: lists of numbers that say what an atom does.
+#![tactic(auto)]
+
 mod setting;
 
 pub use setting::{

@@ -1,4 +1,6 @@
 // Stages: which stage of the pipeline does each piece of work of a plan.
+#![tactic(auto)]
+
 mod fault;
 mod filling;
 mod limits;

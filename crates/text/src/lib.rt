@@ -1,4 +1,6 @@
 // Lines of input, given as bytes: hexadecimal bytes and decimal words read from one, and the place where one ends.
+#![tactic(auto)]
+
 mod decimal;
 mod decode;
 mod fault;

@@ -1,4 +1,6 @@
 // Packet transactions: what one says, when it is well formed, and how a refusal is told.
+#![tactic(auto)]
+
 mod fault;
 mod frame;
 mod nest;

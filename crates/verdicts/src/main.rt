@@ -3,6 +3,8 @@
 // Each line of standard input is an image in hexadecimal, without blanks in it, `-` for one of no bytes, and the limits in
 // decimal: the number of stages, of lines and echoes to a stage, and of atoms to a stage. It is compiled over the atoms of
 // the program `batch` and answered by one line, as that program answers.
+#![tactic(auto)]
+
 use atoms::Subtract;
 use choice::Choice;
 use compiler::compile;

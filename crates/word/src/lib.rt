@@ -1,4 +1,6 @@
 // Words: whole numbers below 2^32, their arithmetics and comparisons, and tables read and written without a bound to prove.
+#![tactic(auto)]
+
 mod arithmetic;
 mod comparison;
 mod table;
