@@ -33,7 +33,7 @@ fn sight(r: Result<(u32, u32), MachineFault>) -> Reply
 
 // Makes a call and puts its answer beside it.
 fn ask<A: Atom>(machine: &mut Machine<A>, asked: &mut Asked)
-    ensures did { Did Arith-as-Arithmetic.plus Arith-as-Arithmetic.minus A.Atom.ran (call_in asked.old) (answer_in asked.new) machine.old machine.new }
+    ensures did { Did A.Arith.Arithmetic.plus A.Arith.Arithmetic.minus A.Atom.ran (call_in asked.old) (answer_in asked.new) machine.old machine.new }
     ensures call { call_in asked.new ≡ call_in asked.old }
     ensures spares { Spares asked.new.answer asked.old.call asked.new.call }
 {
@@ -59,7 +59,7 @@ fn ask<A: Atom>(machine: &mut Machine<A>, asked: &mut Asked)
 
 // Makes the calls of a list, one after another, and puts each answer beside its call.
 pub fn run_calls<A: Atom>(machine: &mut Machine<A>, asked: &mut [Asked])
-    ensures run { Run (pipeline_of Arith-as-Arithmetic.plus Arith-as-Arithmetic.minus A.Atom.ran machine.old.plan) asked.old asked.new (contents machine.old) (contents machine.new) }
+    ensures run { Run (pipeline_of A.Arith.Arithmetic.plus A.Arith.Arithmetic.minus A.Atom.ran machine.old.plan) asked.old asked.new (contents machine.old) (contents machine.new) }
     ensures plan { machine.new.plan ≡ machine.old.plan }
     ensures atom { machine.new.atom ≡ machine.old.atom }
 {

@@ -19,7 +19,7 @@ pub fn serve<A: Atom + Drop>(
     asked: &mut [Asked],
 ) -> Result<Machine<A>, StartFault>
     ensures verdict { Verdict A.Atom.len A.Atom.takes image.now d p q (told result) }
-    ensures served { elim result [ Ok m ↦ Service Arith-as-Arithmetic.plus Arith-as-Arithmetic.minus A.Atom.ran image.now d p q asked.old asked.new m | Err f ↦ asked.new ≡ asked.old ] }
+    ensures served { elim result [ Ok m ↦ Service A.Arith.Arithmetic.plus A.Arith.Arithmetic.minus A.Atom.ran image.now d p q asked.old asked.new m | Err f ↦ asked.new ≡ asked.old ] }
 {
     let mut machine = Machine::new(atom);
     machine.start(image, d, p, q)?;

@@ -22,7 +22,7 @@ fn plan_of<A: Atom>(
 ) -> Result<Plan, CompileFault>
     requires { A.Atom.len ≤ 64 }
     ensures verdict { TransactionJudged A.Atom.takes transaction.now limits.now (outcome result) }
-    ensures plan { TransactionPlanned Arith-as-Arithmetic.plus Arith-as-Arithmetic.minus A.Atom.ran transaction.now limits.now result }
+    ensures plan { TransactionPlanned A.Arith.Arithmetic.plus A.Arith.Arithmetic.minus A.Atom.ran transaction.now limits.now result }
 {
     let lines = lines_of(transaction);
     let codelets = codelets_of(&lines)?;
@@ -44,7 +44,7 @@ pub fn compile<A: Atom>(
     q: u32,
 ) -> Result<Plan, CompileFault>
     ensures verdict { Verdict A.Atom.len A.Atom.takes image.now d p q (outcome result) }
-    ensures plan { Planned Arith-as-Arithmetic.plus Arith-as-Arithmetic.minus A.Atom.ran image.now d p q result }
+    ensures plan { Planned A.Arith.Arithmetic.plus A.Arith.Arithmetic.minus A.Atom.ran image.now d p q result }
 {
     let limits = Limits::new(d, p, q)?;
     check_length(atom)?;

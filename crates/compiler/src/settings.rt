@@ -29,7 +29,7 @@ pub fn check_length<A: Atom>(atom: &A) -> Result<(), AtomFault>
 // A setting for state s's update, where that is in the atom's class.
 fn setting_of<A: Atom>(atom: &A, codelets: &Codelets, s: usize) -> Option<[u32; 64]>
     requires { A.Atom.len ≤ 64 }
-    ensures { Fitted Arith-as-Arithmetic.plus Arith-as-Arithmetic.minus A.Atom.takes A.Atom.ran codelets.now.lines s result }
+    ensures { Fitted A.Arith.Arithmetic.plus A.Arith.Arithmetic.minus A.Atom.takes A.Atom.ran codelets.now.lines s result }
 {
     let codelet = codelet_of(codelets, s);
     let mut setting = [0; 64];
@@ -55,7 +55,7 @@ fn keep(settings: &mut [[u32; 64]; 8], s: usize, setting: [u32; 64])
 // For each named state its setting; refused with the smallest state whose update is outside the atom's class.
 pub fn settings_of<A: Atom>(atom: &A, codelets: &Codelets) -> Result<[[u32; 64]; 8], AtomFault>
     requires { A.Atom.len ≤ 64 }
-    ensures { Set Arith-as-Arithmetic.plus Arith-as-Arithmetic.minus A.Atom.takes A.Atom.ran codelets.now.lines result }
+    ensures { Set A.Arith.Arithmetic.plus A.Arith.Arithmetic.minus A.Atom.takes A.Atom.ran codelets.now.lines result }
 {
     let mut settings = [[0; 64]; 8];
     for s in 0..8 {

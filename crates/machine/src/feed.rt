@@ -50,7 +50,7 @@ impl<A: Atom> Machine<A> {
 
     // Enters the next packet, of these fields.
     pub fn feed(&mut self, fields: &[u32]) -> Result<(), MachineFault>
-        ensures { Did Arith-as-Arithmetic.plus Arith-as-Arithmetic.minus A.Atom.ran (Feed fields.now) (answered (λ _. done) result) self.old self.new }
+        ensures { Did A.Arith.Arithmetic.plus A.Arith.Arithmetic.minus A.Atom.ran (Feed fields.now) (answered (λ _. done) result) self.old self.new }
     {
         let number = self.next_number(fields.len())?;
         let row = entered(fields);

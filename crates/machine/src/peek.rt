@@ -40,7 +40,7 @@ impl<A: Atom> Machine<A> {
 
     // A state's word, and how many packets have reached its atom.
     pub fn peek(&self, s: usize) -> Result<(u32, u32), MachineFault>
-        ensures { Did Arith-as-Arithmetic.plus Arith-as-Arithmetic.minus A.Atom.ran (Peek s) (answered (λ p. word p.0 p.1) result) self.now self.now }
+        ensures { Did A.Arith.Arithmetic.plus A.Arith.Arithmetic.minus A.Atom.ran (Peek s) (answered (λ p. word p.0 p.1) result) self.now self.now }
     {
         self.glance(s)
     }

@@ -21,7 +21,7 @@ use schedule::Schedule;
 impl<A: Atom> Machine<A> {
     // A machine at its start: empty places, no packet counted, zeroed words.
     fn of_plan(atom: A, plan: Plan) -> Machine<A>
-        ensures fresh { Fresh (pipeline_of Arith-as-Arithmetic.plus Arith-as-Arithmetic.minus A.Atom.ran plan) (contents result) }
+        ensures fresh { Fresh (pipeline_of A.Arith.Arithmetic.plus A.Arith.Arithmetic.minus A.Atom.ran plan) (contents result) }
         ensures plan { result.plan ≡ plan }
         ensures atom { result.atom ≡ atom }
     {
@@ -43,8 +43,8 @@ impl<A: Atom> Machine<A> {
 
     // A machine that was never started: that of a transaction of one field that does nothing.
     pub fn new(atom: A) -> Machine<A>
-        ensures fresh { Fresh (pipeline_of Arith-as-Arithmetic.plus Arith-as-Arithmetic.minus A.Atom.ran result.plan) (contents result) }
-        ensures right { Right (pipeline_of Arith-as-Arithmetic.plus Arith-as-Arithmetic.minus A.Atom.ran result.plan) (one_alone Arith-as-Arithmetic.plus Arith-as-Arithmetic.minus idle_program) }
+        ensures fresh { Fresh (pipeline_of A.Arith.Arithmetic.plus A.Arith.Arithmetic.minus A.Atom.ran result.plan) (contents result) }
+        ensures right { Right (pipeline_of A.Arith.Arithmetic.plus A.Arith.Arithmetic.minus A.Atom.ran result.plan) (one_alone A.Arith.Arithmetic.plus A.Arith.Arithmetic.minus idle_program) }
         ensures program { program_of result.plan.transaction ≡ idle_program }
         ensures depth { (shape_of result.plan).depth ≡ 1 }
         ensures atom { result.atom ≡ atom }
@@ -54,7 +54,7 @@ impl<A: Atom> Machine<A> {
 
     // Empties the places, zeroes words and counts, and goes on with another plan.
     fn load(&mut self, plan: Plan)
-        ensures fresh { Fresh (pipeline_of Arith-as-Arithmetic.plus Arith-as-Arithmetic.minus A.Atom.ran plan) (contents self.new) }
+        ensures fresh { Fresh (pipeline_of A.Arith.Arithmetic.plus A.Arith.Arithmetic.minus A.Atom.ran plan) (contents self.new) }
         ensures plan { self.new.plan ≡ plan }
         ensures atom { self.new.atom ≡ self.old.atom }
     {
@@ -68,7 +68,7 @@ impl<A: Atom> Machine<A> {
     // Compiles an image and starts on its plan; a machine that was refused goes on as it was.
     pub fn start(&mut self, image: &[u8], d: u32, p: u32, q: u32) -> Result<(), StartFault>
         ensures verdict { Verdict A.Atom.len A.Atom.takes image.now d p q (begun result self.new) }
-        ensures started { Started Arith-as-Arithmetic.plus Arith-as-Arithmetic.minus A.Atom.ran image.now d p q result self.old self.new }
+        ensures started { Started A.Arith.Arithmetic.plus A.Arith.Arithmetic.minus A.Atom.ran image.now d p q result self.old self.new }
     {
         let plan = compile(&self.atom, image, d, p, q)?;
         self.load(plan);

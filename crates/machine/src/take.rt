@@ -48,7 +48,7 @@ impl<A: Atom> Machine<A> {
 
     // Lets the packet at the exit leave.
     pub fn take(&mut self, out: &mut [u32]) -> Result<(), MachineFault>
-        ensures did { Did Arith-as-Arithmetic.plus Arith-as-Arithmetic.minus A.Atom.ran (Take (length out.old)) (answered (λ _. packet out.new) result) self.old self.new }
+        ensures did { Did A.Arith.Arithmetic.plus A.Arith.Arithmetic.minus A.Atom.ran (Take (length out.old)) (answered (λ _. packet out.new) result) self.old self.new }
         ensures spared { Spared result out.old out.new }
     {
         let row = self.leaving(out.len())?;

@@ -20,7 +20,7 @@ use word::{at, put};
 impl<A: Atom> Machine<A> {
     // What the node at n makes.
     fn make(&self, n: usize, carried: &Packet, stood: &[u32]) -> u32
-        ensures { result ≡ made_at Arith-as-Arithmetic.plus Arith-as-Arithmetic.minus self.now.plan carried.now stood.now n }
+        ensures { result ≡ made_at A.Arith.Arithmetic.plus A.Arith.Arithmetic.minus self.now.plan carried.now stood.now n }
     {
         let line = at(&self.plan.placement.codelets.lines.lines, n, Line::Read(0));
         line.make::<A::Arith>(&carried.fields, stood, &carried.lines)

@@ -7,9 +7,9 @@ use Rattle.calls.proofs.service.serve.Goals as goal
 
 pub returns : goal.returns
 returns g c =
-    let s = c.in-ok-start.ensures in
-    let r = c.run-calls.ensures in
+    let s = c.in_ok-start.ensures in
+    let r = c.run_calls.ensures in
     record {
       verdict = subst (λ (x : Plan). Verdict g.A.Atom.len g.A.Atom.takes c.args.image.now c.args.d c.args.p c.args.q (good x.placement.stages.count)) (sym r.plan) s.verdict;
-      served = serves g.Arith.Arithmetic.plus g.Arith.Arithmetic.minus g.A.Atom.ran c.args.image.now c.args.d c.args.p c.args.q c.args.asked.now c.run-calls.new.asked c.start.new.self c.run-calls.new.machine r.plan s.started.0 r.run;
+      served = serves g.Arith.Arithmetic.plus g.Arith.Arithmetic.minus g.A.Atom.ran c.args.image.now c.args.d c.args.p c.args.q c.args.asked.now c.run_calls.new.asked c.start.new.self c.run_calls.new.machine r.plan s.started.0 r.run;
     }

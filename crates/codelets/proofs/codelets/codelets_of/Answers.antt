@@ -20,8 +20,8 @@ loop-s-preserved c =
       | else-at w ↦ below_unnamed c.args.lines.now c.loop-s.s _ _ w.owner-is (sym c.at.ensures ∙ w.if-at.false) c.loop-s.invariant
     ]
 
-pub invariant-of-result : goal.invariant-of-result
-invariant-of-result c = (below_owned _ _ _ c.loop-s-test.false c.loop-s.invariant, (below_alone _ _ _ c.loop-s-test.false c.loop-s.invariant, tt))
+pub invariant_of-result : goal.invariant_of-result
+invariant_of-result c = (below_owned _ _ _ c.loop-s-test.false c.loop-s.invariant, (below_alone _ _ _ c.loop-s-test.false c.loop-s.invariant, tt))
 
 pub returns : goal.returns
 returns c =

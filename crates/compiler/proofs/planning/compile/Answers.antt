@@ -3,11 +3,11 @@ use Rattle.compiler.proofs.planning.compile.Goals as goal
 
 pub returns : goal.returns
 returns g c =
-    let limits = c.in-ok-limits.limits in
-    let l = c.in-ok-limits.ensures in
-    let t = c.in-ok-transaction.transaction in
-    let read = c.in-ok-transaction.ensures.answer in
+    let limits = c.in_ok-limits.limits in
+    let l = c.in_ok-limits.ensures in
+    let t = c.in_ok-transaction.transaction in
+    let read = c.in_ok-transaction.ensures.answer in
     record {
-      verdict = reaches_verdict g.A.Atom.len c.args.d c.args.p c.args.q g.A.Atom.takes c.args.image.now t limits _ l.answer l.kept c.in-ok-check-length.ensures read c.plan-of.ensures.verdict;
-      plan = reaches_plan g.Arith.Arithmetic.plus g.Arith.Arithmetic.minus g.A.Atom.ran c.args.d c.args.p c.args.q c.args.image.now t limits c.plan-of.result l.kept read c.plan-of.ensures.plan;
+      verdict = reaches_verdict g.A.Atom.len c.args.d c.args.p c.args.q g.A.Atom.takes c.args.image.now t limits _ l.answer l.kept c.in_ok-check_length.ensures read c.plan_of.ensures.verdict;
+      plan = reaches_plan g.Arith.Arithmetic.plus g.Arith.Arithmetic.minus g.A.Atom.ran c.args.d c.args.p c.args.q c.args.image.now t limits c.plan_of.result l.kept read c.plan_of.ensures.plan;
     }

@@ -7,40 +7,40 @@ use Rattle.plans.proofs.Soundness.{Found}
 use Rattle.compiler.proofs.Steps.{Told, exit_codelets, exit_settings, exit_stages, planned, some_stage, few_stages, earlier}
 use Rattle.compiler.proofs.planning.plan_of.Goals as goal
 
-pub returns-in-err-codelets : goal.returns-in-err-codelets
-returns-in-err-codelets g c =
-    let p = err_from_is_err_and c.from-residual.result c.from-residual.ensures.1 in
-    let told = exit_codelets g.Arith.Arithmetic.plus g.Arith.Arithmetic.minus g.A.Atom.takes g.A.Atom.ran c.args.transaction.now c.args.limits.now c.lines-of-lines.result c.lines-of-lines.ensures.exact c.from-residual.result p.0 c.in-err-codelets.field-0.0 p.1 p.2 c.in-err-codelets.ensures in
+pub returns-in_err-codelets : goal.returns-in_err-codelets
+returns-in_err-codelets g c =
+    let p = err_from_is_err_and c.from_residual.result c.from_residual.ensures.1 in
+    let told = exit_codelets g.Arith.Arithmetic.plus g.Arith.Arithmetic.minus g.A.Atom.takes g.A.Atom.ran c.args.transaction.now c.args.limits.now c.lines_of-lines.result c.lines_of-lines.ensures.exact c.from_residual.result p.0 c.in_err-codelets.field-0.0 p.1 p.2 c.in_err-codelets.ensures in
     record { verdict = told.verdict; plan = told.plan }
 
-pub returns-in-err-settings : goal.returns-in-err-settings
-returns-in-err-settings g c =
-    let p = err_from_is_err_and c.from-residual-in-err-settings.result c.from-residual-in-err-settings.ensures.1 in
-    let k = c.in-ok-codelets.codelets in
-    let exact = subst (λ (r : Lines). Exactly (statements_of c.args.transaction.now) r) (sym c.in-ok-codelets.ensures.0) c.lines-of-lines.ensures.exact in
-    let told = exit_settings g.Arith.Arithmetic.plus g.Arith.Arithmetic.minus g.A.Atom.takes g.A.Atom.ran c.args.transaction.now c.args.limits.now k exact c.from-residual-in-err-settings.result p.0 c.in-err-settings.field-0.0 p.1 p.2 c.in-err-settings.ensures in
+pub returns-in_err-settings : goal.returns-in_err-settings
+returns-in_err-settings g c =
+    let p = err_from_is_err_and c.from_residual-in_err-settings.result c.from_residual-in_err-settings.ensures.1 in
+    let k = c.in_ok-codelets.codelets in
+    let exact = subst (λ (r : Lines). Exactly (statements_of c.args.transaction.now) r) (sym c.in_ok-codelets.ensures.0) c.lines_of-lines.ensures.exact in
+    let told = exit_settings g.Arith.Arithmetic.plus g.Arith.Arithmetic.minus g.A.Atom.takes g.A.Atom.ran c.args.transaction.now c.args.limits.now k exact c.from_residual-in_err-settings.result p.0 c.in_err-settings.field-0.0 p.1 p.2 c.in_err-settings.ensures in
     record { verdict = told.verdict; plan = told.plan }
 
-pub returns-in-err-placement : goal.returns-in-err-placement
-returns-in-err-placement g c =
-    let p = err_from_is_err_and c.from-residual-in-err-placement.result c.from-residual-in-err-placement.ensures.1 in
-    let k = c.in-ok-codelets.codelets in
-    let exact = subst (λ (r : Lines). Exactly (statements_of c.args.transaction.now) r) (sym c.in-ok-codelets.ensures.0) c.lines-of-lines.ensures.exact in
-    let told = exit_stages g.Arith.Arithmetic.plus g.Arith.Arithmetic.minus g.A.Atom.takes g.A.Atom.ran c.args.transaction.now c.args.limits.now k exact c.in-ok-settings.settings c.in-ok-settings.ensures c.from-residual-in-err-placement.result p.0 c.in-err-placement.field-0.0 p.1 p.2 c.in-err-placement.ensures in
+pub returns-in_err-placement : goal.returns-in_err-placement
+returns-in_err-placement g c =
+    let p = err_from_is_err_and c.from_residual-in_err-placement.result c.from_residual-in_err-placement.ensures.1 in
+    let k = c.in_ok-codelets.codelets in
+    let exact = subst (λ (r : Lines). Exactly (statements_of c.args.transaction.now) r) (sym c.in_ok-codelets.ensures.0) c.lines_of-lines.ensures.exact in
+    let told = exit_stages g.Arith.Arithmetic.plus g.Arith.Arithmetic.minus g.A.Atom.takes g.A.Atom.ran c.args.transaction.now c.args.limits.now k exact c.in_ok-settings.settings c.in_ok-settings.ensures c.from_residual-in_err-placement.result p.0 c.in_err-placement.field-0.0 p.1 p.2 c.in_err-placement.ensures in
     record { verdict = told.verdict; plan = told.plan }
 
-pub invariant-of-result : goal.invariant-of-result
-invariant-of-result g c =
-    let k = c.in-ok-codelets.codelets in
-    let p = c.in-ok-placement.placement in
-    let w = c.in-ok-placement.ensures in
+pub invariant_of-result : goal.invariant_of-result
+invariant_of-result g c =
+    let k = c.in_ok-codelets.codelets in
+    let p = c.in_ok-placement.placement in
+    let w = c.in_ok-placement.ensures in
     (some_stage k c.args.limits.now p w.1, (few_stages k c.args.limits.now p w.1, (earlier k c.args.limits.now p w.0 w.1, tt)))
 
 pub returns : goal.returns
 returns g c =
-    let k = c.in-ok-codelets.codelets in
-    let l = c.lines-of-lines.ensures in
-    let found : Found c.args.transaction.now k.lines = subst (λ (r : Lines). Found c.args.transaction.now r) (sym c.in-ok-codelets.ensures.0) (record { exact = l.exact; there = l.there; order = l.order; meaning = l.meaning; makes = l.makes; words = l.words }) in
-    let w = c.in-ok-placement.ensures in
-    let told = planned g.Arith.Arithmetic.plus g.Arith.Arithmetic.minus g.A.Atom.takes g.A.Atom.ran c.args.transaction.now c.args.limits.now k found _ refl w.0 c.in-ok-settings.ensures w.1 in
+    let k = c.in_ok-codelets.codelets in
+    let l = c.lines_of-lines.ensures in
+    let found : Found c.args.transaction.now k.lines = subst (λ (r : Lines). Found c.args.transaction.now r) (sym c.in_ok-codelets.ensures.0) (record { exact = l.exact; there = l.there; order = l.order; meaning = l.meaning; makes = l.makes; words = l.words }) in
+    let w = c.in_ok-placement.ensures in
+    let told = planned g.Arith.Arithmetic.plus g.Arith.Arithmetic.minus g.A.Atom.takes g.A.Atom.ran c.args.transaction.now c.args.limits.now k found _ refl w.0 c.in_ok-settings.ensures w.1 in
     record { verdict = told.verdict; plan = told.plan }

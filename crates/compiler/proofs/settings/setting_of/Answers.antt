@@ -13,17 +13,17 @@ pub returns-then-fit : goal.returns-then-fit
 returns-then-fit g c =
     let r = c.args.codelets.now.lines in
     let s = c.args.s in
-    let k = c.codelet-of-codelet.ensures in
-    let e : c.codelet-of-codelet.result ≡ codelet_of r s = the_codelet r s c.codelet-of-codelet.result k.lines k.inner k.read in
+    let k = c.codelet_of-codelet.ensures in
+    let e : c.codelet_of-codelet.result ≡ codelet_of r s = the_codelet r s c.codelet_of-codelet.result k.lines k.inner k.read in
     let d : c.none.result ≡ undecided = c.none.ensures.nothing in
-    let u : c.update-of.result ≡ update_of r s = c.update-of.ensures in
+    let u : c.update_of.result ≡ update_of r s = c.update_of.ensures in
     let right = c.fit.ensures.right c.if-fit.true (room g.A.Atom.len (replicate 64 0) c.requires refl) in (
       answered g.A.Atom.takes r s _ _ _ c.fit.result true e d u c.fit.ensures.answer c.if-fit.true,
-      subst (λ (x : Source). Right g.Arith.Arithmetic.plus g.Arith.Arithmetic.minus g.A.Atom.ran (codelet_of r s) undecided x c.fit.new.buffer) u (subst (λ (x : Decided). Right g.Arith.Arithmetic.plus g.Arith.Arithmetic.minus g.A.Atom.ran (codelet_of r s) x c.update-of.result c.fit.new.buffer) d (subst (λ (x : Codelet). Right g.Arith.Arithmetic.plus g.Arith.Arithmetic.minus g.A.Atom.ran x c.none.result c.update-of.result c.fit.new.buffer) e right)),
+      subst (λ (x : Source). Right g.Arith.Arithmetic.plus g.Arith.Arithmetic.minus g.A.Atom.ran (codelet_of r s) undecided x c.fit.new.buffer) u (subst (λ (x : Decided). Right g.Arith.Arithmetic.plus g.Arith.Arithmetic.minus g.A.Atom.ran (codelet_of r s) x c.update_of.result c.fit.new.buffer) d (subst (λ (x : Codelet). Right g.Arith.Arithmetic.plus g.Arith.Arithmetic.minus g.A.Atom.ran x c.none.result c.update_of.result c.fit.new.buffer) e right)),
     )
 
 pub returns-else-fit : goal.returns-else-fit
 returns-else-fit g c =
     let r = c.args.codelets.now.lines in
-    let k = c.codelet-of-codelet.ensures in
-    answered g.A.Atom.takes r c.args.s _ _ _ c.fit.result _ (the_codelet r c.args.s c.codelet-of-codelet.result k.lines k.inner k.read) c.none.ensures.nothing c.update-of.ensures c.fit.ensures.answer c.if-fit.false
+    let k = c.codelet_of-codelet.ensures in
+    answered g.A.Atom.takes r c.args.s _ _ _ c.fit.result _ (the_codelet r c.args.s c.codelet_of-codelet.result k.lines k.inner k.read) c.none.ensures.nothing c.update_of.ensures c.fit.ensures.answer c.if-fit.false

@@ -6,16 +6,16 @@ use Rattle.codelets.specs.Inner.{inner}
 use Rattle.codelets.proofs.Turns.{Filled, fill_start, fill_write, fill_skip, get_or_all}
 use Rattle.echoes.proofs.Least.{inner_past}
 use Rattle.echoes.proofs.search.inners.Goals as goal
-use Rattle.echoes.proofs.search.inners.Goals.{then-is-inner, else-is-inner}
+use Rattle.echoes.proofs.search.inners.Goals.{then-is_inner, else-is_inner}
 
 pub loop-n-init : goal.loop-n-init
 loop-n-init c = subst (λ l. Filled false (inner c.args.c.now.lines) (replicate 208 false) l 0) (sym c.new-marks.ensures) (fill_start false (inner c.args.c.now.lines) (replicate 208 false))
 
 pub loop-n-preserved : goal.loop-n-preserved
 loop-n-preserved c =
-    elim c.if-is-inner.branch [
-      | then-is-inner w ↦ fill_write false (inner c.args.c.now.lines) (replicate 208 false) c.loop-n.marks.on c.if-is-inner.marks.on c.loop-n.n true c.loop-n.invariant (ap (λ (m : Marks). m.on) w.marks-is ∙ w.add.ensures) (sym w.if-is-inner.true ∙ c.is-inner.ensures) (omega (arith, c.loop-n.marks.long, c.args.c.now.lines.few))
-      | else-is-inner w ↦ fill_skip false (inner c.args.c.now.lines) (replicate 208 false) c.loop-n.marks.on c.if-is-inner.marks.on c.loop-n.n c.loop-n.invariant (ap (λ (m : Marks). m.on) w.marks-is) (get_or_all 208 c.loop-n.n false ∙ (sym w.if-is-inner.false ∙ c.is-inner.ensures))
+    elim c.if-is_inner.branch [
+      | then-is_inner w ↦ fill_write false (inner c.args.c.now.lines) (replicate 208 false) c.loop-n.marks.on c.if-is_inner.marks.on c.loop-n.n true c.loop-n.invariant (ap (λ (m : Marks). m.on) w.marks-is ∙ w.add.ensures) (sym w.if-is_inner.true ∙ c.is_inner.ensures) (omega (arith, c.loop-n.marks.long, c.args.c.now.lines.few))
+      | else-is_inner w ↦ fill_skip false (inner c.args.c.now.lines) (replicate 208 false) c.loop-n.marks.on c.if-is_inner.marks.on c.loop-n.n c.loop-n.invariant (ap (λ (m : Marks). m.on) w.marks-is) (get_or_all 208 c.loop-n.n false ∙ (sym w.if-is_inner.false ∙ c.is_inner.ensures))
     ]
 
 pub returns : goal.returns

@@ -6,16 +6,16 @@ use Rattle.echoes.specs.Echoes.{seed}
 use Rattle.codelets.proofs.Turns.{Filled, fill_start, fill_write, fill_skip, get_or_all}
 use Rattle.echoes.proofs.Least.{seed_past}
 use Rattle.echoes.proofs.search.seeds.Goals as goal
-use Rattle.echoes.proofs.search.seeds.Goals.{then-is-seed, else-is-seed}
+use Rattle.echoes.proofs.search.seeds.Goals.{then-is_seed, else-is_seed}
 
 pub loop-n-init : goal.loop-n-init
 loop-n-init c = subst (λ l. Filled false (seed c.args.c.now.lines) (replicate 208 false) l 0) (sym c.new-marks.ensures) (fill_start false (seed c.args.c.now.lines) (replicate 208 false))
 
 pub loop-n-preserved : goal.loop-n-preserved
 loop-n-preserved c =
-    elim c.if-is-seed.branch [
-      | then-is-seed w ↦ fill_write false (seed c.args.c.now.lines) (replicate 208 false) c.loop-n.marks.on c.if-is-seed.marks.on c.loop-n.n true c.loop-n.invariant (ap (λ (m : Marks). m.on) w.marks-is ∙ w.add.ensures) (sym w.if-is-seed.true ∙ c.is-seed.ensures) (omega (arith, c.loop-n.marks.long, c.args.c.now.lines.few))
-      | else-is-seed w ↦ fill_skip false (seed c.args.c.now.lines) (replicate 208 false) c.loop-n.marks.on c.if-is-seed.marks.on c.loop-n.n c.loop-n.invariant (ap (λ (m : Marks). m.on) w.marks-is) (get_or_all 208 c.loop-n.n false ∙ (sym w.if-is-seed.false ∙ c.is-seed.ensures))
+    elim c.if-is_seed.branch [
+      | then-is_seed w ↦ fill_write false (seed c.args.c.now.lines) (replicate 208 false) c.loop-n.marks.on c.if-is_seed.marks.on c.loop-n.n true c.loop-n.invariant (ap (λ (m : Marks). m.on) w.marks-is ∙ w.add.ensures) (sym w.if-is_seed.true ∙ c.is_seed.ensures) (omega (arith, c.loop-n.marks.long, c.args.c.now.lines.few))
+      | else-is_seed w ↦ fill_skip false (seed c.args.c.now.lines) (replicate 208 false) c.loop-n.marks.on c.if-is_seed.marks.on c.loop-n.n c.loop-n.invariant (ap (λ (m : Marks). m.on) w.marks-is) (get_or_all 208 c.loop-n.n false ∙ (sym w.if-is_seed.false ∙ c.is_seed.ensures))
     ]
 
 pub returns : goal.returns

@@ -2,4 +2,4 @@ use Rattle.image.proofs.AcceptsWritten.{read_exactly}
 use Rattle.image.proofs.reader.read_image.Goals as goal
 
 pub returns : goal.returns
-returns c = read_exactly _ _ c.read-all.ensures
+returns c = read_exactly _ _ c.read_all.ensures

@@ -7,7 +7,7 @@ use Rattle.lines.proofs.named.named_states.Goals as goal
 pub loop-s-preserved : goal.loop-s-preserved
 loop-s-preserved c = (
   length-set _ _ _ ∙ c.loop-s.invariant.0,
-  one_more (λ (s : ℕ). some_names s (statements_of c.args.t.now)) 8 c.loop-s.named c.loop-s.s _ (omega arith) c.loop-s-test.true c.is-named.ensures c.loop-s.invariant.1,
+  one_more (λ (s : ℕ). some_names s (statements_of c.args.t.now)) 8 c.loop-s.named c.loop-s.s _ (omega arith) c.loop-s-test.true c.is_named.ensures c.loop-s.invariant.1,
 )
 
 pub returns : goal.returns

@@ -20,7 +20,7 @@ pub returns : goal.returns
 returns g c =
     let v : Values = values c.args.fields.now c.args.words.now in
     let e = ends g.M.Arithmetic.plus g.M.Arithmetic.minus c.args.t.now.statements c.args.t.now.count v c.loop-i.i c.loop-i-test.false _ c.loop-i.invariant in
-    let r = admits (program_of c.args.t.now) (length c.args.fields.now) (length c.args.words.now) c.in-ok-check-lengths.ensures in
+    let r = admits (program_of c.args.t.now) (length c.args.fields.now) (length c.args.words.now) c.in_ok-check_lengths.ensures in
     record {
       answer = sym (ap refusal_in r);
       leaves = ap (λ (h : Context). h.values) e ∙ sym (ap (λ (a : Answer Program). left g.M.Arithmetic.plus g.M.Arithmetic.minus a v) r);

@@ -4,7 +4,7 @@ use Rattle.meaning.proofs.Turns.{live_more}
 use Rattle.meaning.proofs.serial.is_live.Goals as goal
 
 pub loop-k-preserved : goal.loop-k-preserved
-loop-k-preserved c = live_more c.args.nest.now.frames c.loop-k.k _ _ _ _ (omega arith) c.is-taken-all.ensures c.loop-k.invariant refl
+loop-k-preserved c = live_more c.args.nest.now.frames c.loop-k.k _ _ _ _ (omega arith) c.is_taken-all.ensures c.loop-k.invariant refl
 
 pub returns : goal.returns
 returns c =

@@ -7,8 +7,8 @@ use Rattle.placement.proofs.place.place_codelets.Goals as goal
 pub returns : goal.returns
 returns c =
     let k = c.args.codelets.now in
-    let f = c.in-ok-stages.ensures in
-    let placed = c.table-of-nodes.ensures in (
+    let f = c.in_ok-stages.ensures in
+    let placed = c.table_of-nodes.ensures in (
       refl,
       record {
         lines = refl;
@@ -18,12 +18,12 @@ returns c =
         count = f.count;
         within = f.within;
         filled = f.well;
-        earlier = earlier k.lines c.table-of-nodes.result.sorts c.table-of-nodes.result.rows placed _ _ _ f.well;
+        earlier = earlier k.lines c.table_of-nodes.result.sorts c.table_of-nodes.result.rows placed _ _ _ f.well;
       },
     )
 
-pub returns-in-err-stages : goal.returns-in-err-stages
-returns-in-err-stages c =
+pub returns-in_err-stages : goal.returns-in_err-stages
+returns-in_err-stages c =
     let k = c.args.codelets.now in
     let apart = (coded k.lines k.owner k.owned k.alone).alone in
     search rules

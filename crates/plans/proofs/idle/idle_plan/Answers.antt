@@ -7,17 +7,17 @@ use Rattle.plans.proofs.Empty.{bare}
 use Rattle.plans.proofs.Soundness.{sound_from}
 use Rattle.plans.proofs.idle.idle_plan.Goals as goal
 
-pub one-stage-placement-requires : goal.one-stage-placement-requires
-one-stage-placement-requires c = bare c.nothing-transaction.result c.lines-of-lines.result c.nothing-transaction.ensures c.lines-of-lines.ensures.exact
+pub one_stage-placement-requires : goal.one_stage-placement-requires
+one_stage-placement-requires c = bare c.nothing-transaction.result c.lines_of-lines.result c.nothing-transaction.ensures c.lines_of-lines.ensures.exact
 
 pub returns : goal.returns
 returns c =
     let t = c.nothing-transaction.result in
-    let r = c.lines-of-lines.result in
-    let l = c.lines-of-lines.ensures in
+    let r = c.lines_of-lines.result in
+    let l = c.lines_of-lines.ensures in
     let empty = bare t r c.nothing-transaction.ensures l.exact in
     record {
       program = c.nothing-transaction.ensures;
       image = ap {B = Answer Program} good (sym c.nothing-transaction.ensures);
-      sound = λ plus minus ran. sound_from plus minus ran one _ t r refl c.one-stage-placement.ensures.lines (record { exact = l.exact; there = l.there; order = l.order; meaning = l.meaning; makes = l.makes; words = l.words }) c.one-stage-placement.ensures.placed (λ s n. absurd (both_ways _ (empty.unnamed s) n));
+      sound = λ plus minus ran. sound_from plus minus ran one _ t r refl c.one_stage-placement.ensures.lines (record { exact = l.exact; there = l.there; order = l.order; meaning = l.meaning; makes = l.makes; words = l.words }) c.one_stage-placement.ensures.placed (λ s n. absurd (both_ways _ (empty.unnamed s) n));
     }

@@ -10,7 +10,7 @@ use Rattle.rows.proofs.nodes.sorts_of.Goals as goal
 
 pub loop-n-preserved : goal.loop-n-preserved
 loop-n-preserved c =
-    (fill_write None (sort_of c.args.c.now.lines) (replicate 208 None) c.loop-n.sort _ c.loop-n.n c.sort-of.result c.loop-n.invariant.0 refl c.sort-of.ensures (omega (arith, c.loop-n.invariant.1)), length-set c.loop-n.sort c.loop-n.n c.sort-of.result ∙ c.loop-n.invariant.1)
+    (fill_write None (sort_of c.args.c.now.lines) (replicate 208 None) c.loop-n.sort _ c.loop-n.n c.sort_of.result c.loop-n.invariant.0 refl c.sort_of.ensures (omega (arith, c.loop-n.invariant.1)), length-set c.loop-n.sort c.loop-n.n c.sort_of.result ∙ c.loop-n.invariant.1)
 
 pub returns : goal.returns
 returns c n =

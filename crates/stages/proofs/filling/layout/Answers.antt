@@ -8,32 +8,32 @@ use Rattle.stages.proofs.filling.layout.Goals as goal
 
 pub loop-next-init : goal.loop-next-init
 loop-next-init c =
-    begin c.args.nodes.now c.args.limits.now.lines c.args.limits.now.atoms c.args.limits.now.some_line c.args.limits.now.some_atom c.row-after-next.result (replicate 208 0) (subst (Least c.args.nodes.now None 208) (sym c.row-after-next.ensures) (least c.args.nodes.now None 208)) refl (λ k lt. get_or-replicate 208 k 0 0 lt)
+    begin c.args.nodes.now c.args.limits.now.lines c.args.limits.now.atoms c.args.limits.now.some_line c.args.limits.now.some_atom c.row_after-next.result (replicate 208 0) (subst (Least c.args.nodes.now None 208) (sym c.row_after-next.ensures) (least c.args.nodes.now None 208)) refl (λ k lt. get_or-replicate 208 k 0 0 lt)
 
-pub place-row-requires : goal.place-row-requires
-place-row-requires c = record {
-  few = omega (arith, room_left c.args.nodes.now c.args.limits.now.lines c.args.limits.now.atoms c.args.limits.now.some_line c.args.limits.now.some_atom c.in-Some.row c.loop-next.needed (width c.args.nodes.now c.args.limits.now.lines c.args.limits.now.atoms c.in-Some.row) c.loop-next.next c.loop-next.stage-of c.loop-next.invariant c.in-Some.is refl);
+pub place_row-requires : goal.place_row-requires
+place_row-requires c = record {
+  few = omega (arith, room_left c.args.nodes.now c.args.limits.now.lines c.args.limits.now.atoms c.args.limits.now.some_line c.args.limits.now.some_atom c.in-Some.row c.loop-next.needed (width c.args.nodes.now c.args.limits.now.lines c.args.limits.now.atoms c.in-Some.row) c.loop-next.next c.loop-next.stage_of c.loop-next.invariant c.in-Some.is refl);
   long = c.loop-next.invariant.long;
 }
 
 pub overflow-add-needed : goal.overflow-add-needed
 overflow-add-needed c =
-    omega (arith, room_left c.args.nodes.now c.args.limits.now.lines c.args.limits.now.atoms c.args.limits.now.some_line c.args.limits.now.some_atom c.in-Some.row c.loop-next.needed c.width-needed.result c.loop-next.next c.loop-next.stage-of c.loop-next.invariant c.in-Some.is c.width-needed.ensures)
+    omega (arith, room_left c.args.nodes.now c.args.limits.now.lines c.args.limits.now.atoms c.args.limits.now.some_line c.args.limits.now.some_atom c.in-Some.row c.loop-next.needed c.width-needed.result c.loop-next.next c.loop-next.stage_of c.loop-next.invariant c.in-Some.is c.width-needed.ensures)
 
 pub loop-next-preserved : goal.loop-next-preserved
 loop-next-preserved c =
-    turn c.args.nodes.now c.args.limits.now.lines c.args.limits.now.atoms c.args.limits.now.some_line c.args.limits.now.some_atom c.in-Some.row c.loop-next.needed c.width-needed.result c.loop-next.next c.row-after-next-in-Some.result c.loop-next.stage-of c.place-row.new.stage-of c.loop-next.invariant c.in-Some.is (subst (Least c.args.nodes.now (Some c.in-Some.row) 208) (sym c.row-after-next-in-Some.ensures) (least c.args.nodes.now (Some c.in-Some.row) 208)) c.width-needed.ensures (c.place-row.auto.stage-of ∙ c.loop-next.invariant.long) c.place-row.ensures
+    turn c.args.nodes.now c.args.limits.now.lines c.args.limits.now.atoms c.args.limits.now.some_line c.args.limits.now.some_atom c.in-Some.row c.loop-next.needed c.width-needed.result c.loop-next.next c.row_after-next-in-Some.result c.loop-next.stage_of c.place_row.new.stage_of c.loop-next.invariant c.in-Some.is (subst (Least c.args.nodes.now (Some c.in-Some.row) 208) (sym c.row_after-next-in-Some.ensures) (least c.args.nodes.now (Some c.in-Some.row) 208)) c.width-needed.ensures (c.place_row.auto.stage_of ∙ c.loop-next.invariant.long) c.place_row.ensures
 
 pub loop-next-smaller : goal.loop-next-smaller
 loop-next-smaller c =
-    fewer c.args.nodes.now c.args.limits.now.lines c.args.limits.now.atoms c.args.limits.now.some_line c.args.limits.now.some_atom c.in-Some.row c.loop-next.needed c.loop-next.next c.row-after-next-in-Some.result c.loop-next.stage-of c.loop-next.invariant c.in-Some.is (subst (Least c.args.nodes.now (Some c.in-Some.row) 208) (sym c.row-after-next-in-Some.ensures) (least c.args.nodes.now (Some c.in-Some.row) 208))
+    fewer c.args.nodes.now c.args.limits.now.lines c.args.limits.now.atoms c.args.limits.now.some_line c.args.limits.now.some_atom c.in-Some.row c.loop-next.needed c.loop-next.next c.row_after-next-in-Some.result c.loop-next.stage_of c.loop-next.invariant c.in-Some.is (subst (Least c.args.nodes.now (Some c.in-Some.row) 208) (sym c.row_after-next-in-Some.ensures) (least c.args.nodes.now (Some c.in-Some.row) 208))
 
 pub returns : goal.returns
 returns c =
-    let each : (n : ℕ) → n < 208 → get_or c.loop-next.stage-of n 0 ≡ stage_of c.args.nodes.now c.args.limits.now.lines c.args.limits.now.atoms n = all_placed c.args.nodes.now c.args.limits.now.lines c.args.limits.now.atoms c.args.limits.now.some_line c.args.limits.now.some_atom c.loop-next.needed c.loop-next.next c.loop-next.stage-of c.loop-next.invariant c.in-default.is in
-    let count : c.at-least-one.result ≡ stage_count c.args.nodes.now c.args.limits.now.lines c.args.limits.now.atoms = c.at-least-one.ensures ∙ ap (λ (n : ℕ). max 1 n) (all_counted c.args.nodes.now c.args.limits.now.lines c.args.limits.now.atoms c.args.limits.now.some_line c.args.limits.now.some_atom c.loop-next.needed c.loop-next.next c.loop-next.stage-of c.loop-next.invariant c.in-default.is) in
+    let each : (n : ℕ) → n < 208 → get_or c.loop-next.stage_of n 0 ≡ stage_of c.args.nodes.now c.args.limits.now.lines c.args.limits.now.atoms n = all_placed c.args.nodes.now c.args.limits.now.lines c.args.limits.now.atoms c.args.limits.now.some_line c.args.limits.now.some_atom c.loop-next.needed c.loop-next.next c.loop-next.stage_of c.loop-next.invariant c.in-default.is in
+    let count : c.at_least_one.result ≡ stage_count c.args.nodes.now c.args.limits.now.lines c.args.limits.now.atoms = c.at_least_one.ensures ∙ ap (λ (n : ℕ). max 1 n) (all_counted c.args.nodes.now c.args.limits.now.lines c.args.limits.now.atoms c.args.limits.now.some_line c.args.limits.now.some_atom c.loop-next.needed c.loop-next.next c.loop-next.stage_of c.loop-next.invariant c.in-default.is) in
     record {
       each = each;
       count = count;
-      well = well_staged c.args.nodes.now c.args.limits.now.lines c.args.limits.now.atoms c.args.limits.now.some_line c.args.limits.now.some_atom c.loop-next.stage-of c.at-least-one.result each count;
+      well = well_staged c.args.nodes.now c.args.limits.now.lines c.args.limits.now.atoms c.args.limits.now.some_line c.args.limits.now.some_atom c.loop-next.stage_of c.at_least_one.result each count;
     }

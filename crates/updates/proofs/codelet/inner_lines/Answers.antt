@@ -7,8 +7,8 @@ use Rattle.updates.proofs.codelet.inner_lines.Goals as goal
 pub loop-n-preserved : goal.loop-n-preserved
 loop-n-preserved c =
     let long = c.loop-n.invariant.0 in (
-      length-set c.loop-n.inner c.loop-n.n c.is-inner.result ∙ long,
-      λ k h. ap (λ (x : Bool). get_or (set c.loop-n.inner c.loop-n.n x) k false) c.is-inner.ensures ∙ fill_by_more (is_inner c.args.codelets.now.lines c.args.s) c.loop-n.inner c.loop-n.n false (omega (arith, long)) c.loop-n.invariant.1 k h,
+      length-set c.loop-n.inner c.loop-n.n c.is_inner.result ∙ long,
+      λ k h. ap (λ (x : Bool). get_or (set c.loop-n.inner c.loop-n.n x) k false) c.is_inner.ensures ∙ fill_by_more (is_inner c.args.codelets.now.lines c.args.s) c.loop-n.inner c.loop-n.n false (omega (arith, long)) c.loop-n.invariant.1 k h,
     )
 
 pub returns : goal.returns

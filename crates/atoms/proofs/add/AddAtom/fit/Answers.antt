@@ -19,10 +19,10 @@ returns-in-Some-Set g c =
     let word : NamesWord (operand o) = search rules in
     record {
       answer = sym (ap adds is) ∙ add_takes_lem cod d u;
-      right = λ _ room. operation_right plus g.M.Arithmetic.minus g.met.M.Arithmetic.swap cod d (add_result plus) u o c.write-operation.new.buffer (λ old p. refl) is word (c.write-operation.ensures.written (leb-true 3 _ room));
+      right = λ _ room. operation_right plus g.M.Arithmetic.minus g.met.M.Arithmetic.swap cod d (add_result plus) u o c.write_operation.new.buffer (λ old p. refl) is word (c.write_operation.ensures.written (leb-true 3 _ room));
       refused = λ e. absurd (true≢false e);
-      short = λ e. c.write-operation.ensures.short (leb-false 3 _ e);
-      rest = c.write-operation.ensures.rest;
+      short = λ e. c.write_operation.ensures.short (leb-false 3 _ e);
+      rest = c.write_operation.ensures.rest;
     }
 
 pub returns-in-Some-Add : goal.returns-in-Some-Add
@@ -36,8 +36,8 @@ returns-in-Some-Add g c =
     let word : NamesWord (operand o) = search rules in
     record {
       answer = sym (ap adds is) ∙ add_takes_lem cod d u;
-      right = λ _ room. operation_right plus g.M.Arithmetic.minus g.met.M.Arithmetic.swap cod d (add_result plus) u o c.write-operation-in-Some-Add.new.buffer (λ old p. refl) is word (c.write-operation-in-Some-Add.ensures.written (leb-true 3 _ room));
+      right = λ _ room. operation_right plus g.M.Arithmetic.minus g.met.M.Arithmetic.swap cod d (add_result plus) u o c.write_operation-in-Some-Add.new.buffer (λ old p. refl) is word (c.write_operation-in-Some-Add.ensures.written (leb-true 3 _ room));
       refused = λ e. absurd (true≢false e);
-      short = λ e. c.write-operation-in-Some-Add.ensures.short (leb-false 3 _ e);
-      rest = c.write-operation-in-Some-Add.ensures.rest;
+      short = λ e. c.write_operation-in-Some-Add.ensures.short (leb-false 3 _ e);
+      rest = c.write_operation-in-Some-Add.ensures.rest;
     }

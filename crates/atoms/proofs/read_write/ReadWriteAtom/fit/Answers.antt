@@ -17,8 +17,8 @@ returns-in-Some-Set g c =
     let word : NamesWord (operand o) = search rules in
     record {
       answer = sym (ap sets is) ∙ read_write_takes_lem cod d u;
-      right = λ _ room. operation_right g.M.Arithmetic.plus g.M.Arithmetic.minus g.met.M.Arithmetic.swap cod d (λ q old p. leaf_value (operand q) old p) u o c.write-operation.new.buffer (λ old p. refl) is word (c.write-operation.ensures.written (leb-true 3 _ room));
+      right = λ _ room. operation_right g.M.Arithmetic.plus g.M.Arithmetic.minus g.met.M.Arithmetic.swap cod d (λ q old p. leaf_value (operand q) old p) u o c.write_operation.new.buffer (λ old p. refl) is word (c.write_operation.ensures.written (leb-true 3 _ room));
       refused = λ e. absurd (true≢false e);
-      short = λ e. c.write-operation.ensures.short (leb-false 3 _ e);
-      rest = c.write-operation.ensures.rest;
+      short = λ e. c.write_operation.ensures.short (leb-false 3 _ e);
+      rest = c.write_operation.ensures.rest;
     }

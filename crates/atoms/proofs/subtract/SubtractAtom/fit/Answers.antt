@@ -17,8 +17,8 @@ returns g c =
     let is : operation_of cod d u ≡ Some o = sym c.in-Some.ensures.operation in
     record {
       answer = sym (ap is_some is) ∙ subtract_takes_lem cod d u;
-      right = λ _ room. operation_right plus minus g.met.M.Arithmetic.swap cod d (result plus minus) u o c.write-operation.new.buffer (λ old p. refl) is c.in-Some.ensures.word (c.write-operation.ensures.written (leb-true 3 _ room));
+      right = λ _ room. operation_right plus minus g.met.M.Arithmetic.swap cod d (result plus minus) u o c.write_operation.new.buffer (λ old p. refl) is c.in-Some.ensures.word (c.write_operation.ensures.written (leb-true 3 _ room));
       refused = λ e. absurd (true≢false e);
-      short = λ e. c.write-operation.ensures.short (leb-false 3 _ e);
-      rest = c.write-operation.ensures.rest;
+      short = λ e. c.write_operation.ensures.short (leb-false 3 _ e);
+      rest = c.write_operation.ensures.rest;
     }

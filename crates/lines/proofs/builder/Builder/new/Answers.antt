@@ -2,5 +2,5 @@ use Rattle.std.proofs.Common.{refl, lit≤}
 use Rattle.lines.proofs.Blank.{all_blank}
 use Rattle.lines.proofs.builder.Builder.new.Goals as goal
 
-pub invariant-of-result : goal.invariant-of-result
-invariant-of-result c = (lit≤ tt, (refl, (refl, (refl, ((λ n _. all_blank 208 n), tt)))))
+pub invariant_of-result : goal.invariant_of-result
+invariant_of-result c = (lit≤ tt, (refl, (refl, (refl, ((λ n _. all_blank 208 n), tt)))))

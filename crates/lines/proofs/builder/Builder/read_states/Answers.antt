@@ -17,10 +17,10 @@ loop-s-preserved c =
     let b = c.loop-s.self in
     elim c.if-named-s.branch [
       | then-named-s w ↦
-          (let p = w.read-state-first.ensures.pushed in
+          (let p = w.read_state-first.ensures.pushed in
           let more = ap (λ (x : Builder). x.count) w.self-is ∙ p.count in
           let same = ap (λ (x : Builder). x.states) w.self-is ∙ p.states in
-          let table = c.put.ensures ∙ ap₂ (λ (l : List Source) (x : Source). set l s x) same (w.first-is ∙ w.read-state-first.ensures.value) in (
+          let table = c.put.ensures ∙ ap₂ (λ (l : List Source) (x : Source). set l s x) same (w.first-is ∙ w.read_state-first.ensures.value) in (
             ap (λ (l : List Line). l ++ map Read (states_from (s + 1) (drop (s + 1) N))) (ap (λ (x : Builder). take x.count x.lines) w.self-is ∙ p.lines) ∙ listed N s (omega arith) Read _ w.if-named-s.true ∙ v.0,
             ap₂ (λ (l : List Source) (n : ℕ). take (s + 1) l ++ firsts n (drop (s + 1) N)) table more ∙ first_named N s (omega arith) b.count b.states (omega arith) w.if-named-s.true ∙ v.1,
             ap (λ (x : Builder). x.fields) w.self-is ∙ p.fields ∙ v.2,

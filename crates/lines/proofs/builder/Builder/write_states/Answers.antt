@@ -17,7 +17,7 @@ loop-s-preserved c =
     let b = c.loop-s.self in
     elim c.if-named-s.branch [
       | then-named-s w ↦
-          (let p = w.write-state.ensures in
+          (let p = w.write_state.ensures in
           let new = ap (λ (x : Builder). take x.count x.lines) w.self-is ∙ p.lines ∙ ap (λ (l : List Source). take b.count b.lines ++ (write_line l s ∷ [])) v.3 in (
             ap (λ (l : List Line). l ++ map (write_line us) (states_from (s + 1) (drop (s + 1) N))) new ∙ listed N s (omega arith) (write_line us) _ w.if-named-s.true ∙ v.0,
             omega (arith, ap (λ (x : Builder). x.count) w.self-is, p.count),

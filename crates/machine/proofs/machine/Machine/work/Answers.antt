@@ -9,21 +9,21 @@ loop-n-init g c =
     let m = c.args.self.now in
     let stages = m.plan.placement.stages.stage_of in
     let long : length stages ≡ 208 = ap length (sym m.scheduled) ∙ m.schedule.long in (
-      walk_from g.Arith.Arithmetic.plus g.Arith.Arithmetic.minus m.plan c.args.k c.args.carried.now c.args.stood.now c.args.carried.now.lines c.first-of-n.result long
-          (subst (λ (l : List ℕ). c.first-of-n.result ≡ seek l c.args.k 0) m.scheduled (c.first-of-n.ensures.least c.requires)),
+      walk_from g.Arith.Arithmetic.plus g.Arith.Arithmetic.minus m.plan c.args.k c.args.carried.now c.args.stood.now c.args.carried.now.lines c.first_of-n.result long
+          (subst (λ (l : List ℕ). c.first_of-n.result ≡ seek l c.args.k 0) m.scheduled (c.first_of-n.ensures.least c.requires)),
       search rules,
     )
 
 -- the walk goes on, and forward
-goes_on : (g : given.Over) (c : goal.After-next-of-n g) → Walking g.Arith.Arithmetic.plus g.Arith.Arithmetic.minus c.args.self.now.plan c.args.k c.args.carried.now c.args.stood.now (filled_all g.Arith.Arithmetic.plus g.Arith.Arithmetic.minus c.args.self.now.plan c.args.k c.args.carried.now c.args.stood.now c.args.carried.now.lines) c.next-of-n.result c.put.new.table × (c.loop-n.n < c.next-of-n.result)
+goes_on : (g : given.Over) (c : goal.After-next_of-n g) → Walking g.Arith.Arithmetic.plus g.Arith.Arithmetic.minus c.args.self.now.plan c.args.k c.args.carried.now c.args.stood.now (filled_all g.Arith.Arithmetic.plus g.Arith.Arithmetic.minus c.args.self.now.plan c.args.k c.args.carried.now c.args.stood.now c.args.carried.now.lines) c.next_of-n.result c.put.new.table × (c.loop-n.n < c.next_of-n.result)
 goes_on g c =
     let m = c.args.self.now in
     let n = c.loop-n.n in
     let stages = m.plan.placement.stages.stage_of in
     let long : length stages ≡ 208 = ap length (sym m.scheduled) ∙ m.schedule.long in
     let here : get_or stages n 0 ≡ c.args.k = c.loop-n.invariant.0.here c.loop-n-test.true in
-    let on = subst (λ (l : List ℕ). get_or l n 0 < 33 → c.next-of-n.result ≡ seek l (get_or l n 0) (n + 1)) m.scheduled (c.next-of-n.ensures.least c.loop-n-test.true) in
-    walk_on g.Arith.Arithmetic.plus g.Arith.Arithmetic.minus m.plan c.args.k c.args.carried.now c.args.stood.now _ c.loop-n.lines c.put.new.table n c.next-of-n.result long c.loop-n-test.true c.loop-n.invariant.0
+    let on = subst (λ (l : List ℕ). get_or l n 0 < 33 → c.next_of-n.result ≡ seek l (get_or l n 0) (n + 1)) m.scheduled (c.next_of-n.ensures.least c.loop-n-test.true) in
+    walk_on g.Arith.Arithmetic.plus g.Arith.Arithmetic.minus m.plan c.args.k c.args.carried.now c.args.stood.now _ c.loop-n.lines c.put.new.table n c.next_of-n.result long c.loop-n-test.true c.loop-n.invariant.0
     (c.put.ensures ∙ ap {B = List ℕ} (set c.loop-n.lines n) c.make-value.ensures)
     (on (omega (arith, here, c.requires)) ∙ ap {B = ℕ} (λ (j : ℕ). seek stages j (n + 1)) here)
 

@@ -19,10 +19,10 @@ loop-n-preserved c =
     let d = c.args.decided.now in
     let n = c.loop-n.n in
     let all = c.loop-n.sources in
-    let one = c.resolve-line-source.result in
+    let one = c.resolve_line-source.result in
     let below : n < length all = omega arith in
     let front : take (n - 0) all ≡ table cod d n = ap (λ k. take k all) (sub-zero n) ∙ c.loop-n.invariant.1 in
-    let made : one ≡ resolved_line cod d (table cod d n) n = c.resolve-line-source.ensures ∙ ap (λ t. resolved_line cod d t n) front in
+    let made : one ≡ resolved_line cod d (table cod d n) n = c.resolve_line-source.ensures ∙ ap (λ t. resolved_line cod d t n) front in
     let pushed : take n all ++ (one ∷ []) ≡ table cod d n ++ (resolved_line cod d (table cod d n) n ∷ []) =
     ap (λ t. t ++ (one ∷ [])) c.loop-n.invariant.1 ∙ ap (λ x. table cod d n ++ (x ∷ [])) made in
     (length-set all n one ∙ c.loop-n.invariant.0, take_more_set all n one below ∙ pushed ∙ sym (ap (table cod d) (add-one n)))

@@ -4,4 +4,4 @@ use Rattle.stages.proofs.Tables.{Filled}
 use Rattle.stages.proofs.node.Nodes.place_row.Given as goal
 
 abbrev pub invariant-loop-n : goal.invariant-loop-n
-invariant-loop-n l = Filled (λ n. eqb (row_of l.self n) l.row) (λ n. placed l.self l.limits.lines l.limits.atoms l.start n (node_at l.self n)) l.initial.stage-of l.stage-of l.n
+invariant-loop-n l = Filled (λ n. eqb (row_of l.self n) l.row) (λ n. placed l.self l.limits.lines l.limits.atoms l.start n (node_at l.self n)) l.initial.stage_of l.stage_of l.n
