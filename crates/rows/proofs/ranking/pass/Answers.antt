@@ -4,8 +4,8 @@ use Rattle.rows.proofs.Passing.{pass_start, pass_write, pass_keep, pass_end, nex
 use Rattle.rows.proofs.ranking.pass.Goals as goal
 use Rattle.rows.proofs.ranking.pass.Goals.{then-at-row, else-at-row}
 
-pub overflow-add-row : goal.overflow-add-row
-overflow-add-row c =
+pub overflow_add-row : goal.overflow_add-row
+overflow_add-row c =
     let t = next_low c.args.c.now.lines c.loop-n.rows c.loop-n.n c.above-row.result c.loop-n.invariant.under c.loop-n-test.true c.above-row.ensures in
     omega arith
 

@@ -16,8 +16,8 @@ place_row-requires c = record {
   long = c.loop-next.invariant.long;
 }
 
-pub overflow-add-needed : goal.overflow-add-needed
-overflow-add-needed c =
+pub overflow_add-needed : goal.overflow_add-needed
+overflow_add-needed c =
     omega (arith, room_left c.args.nodes.now c.args.limits.now.lines c.args.limits.now.atoms c.args.limits.now.some_line c.args.limits.now.some_atom c.in-Some.row c.loop-next.needed c.width-needed.result c.loop-next.next c.loop-next.stage_of c.loop-next.invariant c.in-Some.is c.width-needed.ensures)
 
 pub loop-next-preserved : goal.loop-next-preserved
@@ -30,8 +30,8 @@ loop-next-smaller c =
 
 pub returns : goal.returns
 returns c =
-    let each : (n : ℕ) → n < 208 → get_or c.loop-next.stage_of n 0 ≡ stage_of c.args.nodes.now c.args.limits.now.lines c.args.limits.now.atoms n = all_placed c.args.nodes.now c.args.limits.now.lines c.args.limits.now.atoms c.args.limits.now.some_line c.args.limits.now.some_atom c.loop-next.needed c.loop-next.next c.loop-next.stage_of c.loop-next.invariant c.in-default.is in
-    let count : c.at_least_one.result ≡ stage_count c.args.nodes.now c.args.limits.now.lines c.args.limits.now.atoms = c.at_least_one.ensures ∙ ap (λ (n : ℕ). max 1 n) (all_counted c.args.nodes.now c.args.limits.now.lines c.args.limits.now.atoms c.args.limits.now.some_line c.args.limits.now.some_atom c.loop-next.needed c.loop-next.next c.loop-next.stage_of c.loop-next.invariant c.in-default.is) in
+    let each : (n : ℕ) → n < 208 → get_or c.loop-next.stage_of n 0 ≡ stage_of c.args.nodes.now c.args.limits.now.lines c.args.limits.now.atoms n = all_placed c.args.nodes.now c.args.limits.now.lines c.args.limits.now.atoms c.args.limits.now.some_line c.args.limits.now.some_atom c.loop-next.needed c.loop-next.next c.loop-next.stage_of c.loop-next.invariant c.in_default.is in
+    let count : c.at_least_one.result ≡ stage_count c.args.nodes.now c.args.limits.now.lines c.args.limits.now.atoms = c.at_least_one.ensures ∙ ap (λ (n : ℕ). max 1 n) (all_counted c.args.nodes.now c.args.limits.now.lines c.args.limits.now.atoms c.args.limits.now.some_line c.args.limits.now.some_atom c.loop-next.needed c.loop-next.next c.loop-next.stage_of c.loop-next.invariant c.in_default.is) in
     record {
       each = each;
       count = count;
