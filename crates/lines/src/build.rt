@@ -9,6 +9,7 @@ ghost use Rattle.lines.specs.declared.line.Line.TheVariants.{Read};
 ghost use Rattle.lines.specs.declared.line.Source.TheVariants.{Field as Incoming, Line as Made};
 ghost use Rattle.lines.specs.Named.{up_from};
 ghost use Rattle.lines.specs.Exact.{Exactly, NamedThere, InOrder};
+ghost use Rattle.lines.specs.Unique.{IsBlankPast};
 ghost use Rattle.lines.specs.Meaning.{KeepsMeaning, EachMakes, MakesWords};
 ghost use Rattle.lines.specs.View.{draft_of, frame_at, Pushed, Guarded};
 
@@ -262,6 +263,7 @@ pub fn lines_of(t: &Transaction) -> Lines
     ensures meaning { KeepsMeaning t.now result }
     ensures makes { EachMakes result }
     ensures words { MakesWords result }
+    ensures blank { IsBlankPast result }
 {
     let named = named_states(t);
     let mut b = Builder::body(t, &named);

@@ -38,6 +38,4 @@ pub struct Lines {
     ghost lines_below: { ReadsBelow (count - amount named) (take count lines) },
     ghost finals_below: { Below (count - amount named) finals },
     ghost updates_below: { Below (count - amount named) updates },
-    // past the count the table holds read lines of state 0, which mean nothing
-    ghost blank: { (n : ℕ) → count ≤ n → slice_index_or lines n (Read 0) ≡ Read 0 },
 }

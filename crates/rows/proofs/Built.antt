@@ -106,7 +106,6 @@ sampling_lines = record {
   lines_below = reads_below 10 sampling refl;
   finals_below = at_below 10 (Made 7 ∷ (Made 1 ∷ replicate 14 (Fixed 0))) refl;
   updates_below = at_below 10 (Made 9 ∷ replicate 7 (Fixed 0)) refl;
-  blank = blank_past sampling 197;
 }
 
 chained_lines : Lines
@@ -133,7 +132,6 @@ chained_lines = record {
   lines_below = reads_below 4 chained refl;
   finals_below = at_below 4 (replicate 16 (Fixed 0)) refl;
   updates_below = at_below 4 (Made 2 ∷ (Made 3 ∷ replicate 6 (Fixed 0))) refl;
-  blank = blank_past chained 202;
 }
 
 crossed_lines : Lines
@@ -160,7 +158,6 @@ crossed_lines = record {
   lines_below = reads_below 5 crossed refl;
   finals_below = at_below 5 (Made 2 ∷ replicate 15 (Fixed 0)) refl;
   updates_below = at_below 5 (Made 3 ∷ (Made 4 ∷ replicate 6 (Fixed 0))) refl;
-  blank = blank_past crossed 201;
 }
 
 pub samples_stand : SamplesStand

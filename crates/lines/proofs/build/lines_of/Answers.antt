@@ -15,28 +15,24 @@ invariant_of-result c =
     let named = c.named_states-named.ensures in
     let w = c.write_states.ensures in
     let l = laid_out xs N named b b' c.body-b.ensures.made w.lines w.fields w.states in
-    let first = first_write xs N named b b' c.body-b.ensures.made w.lines w.fields w.states in (
-      b'.room,
-      (
-        b'.lines_long,
-        (
-          ap length named ∙ named_long xs,
-          (
-            b'.fields_long,
-            (
-              b'.states_long,
-              (
-                c.number_states.ensures,
-                (
-                  c.number_states-2.ensures ∙ ap (λ (n : ℕ). numbered n N) first,
-                  (l.room, (l.reads_first, (l.writes_last, (l.plain, (l.ordered, (l.lines_below, (l.finals_below, (l.updates_below, (b'.blank, tt))))))))),
-                ),
-              ),
-            ),
-          ),
-        ),
-      ),
-    )
+    let first = first_write xs N named b b' c.body-b.ensures.made w.lines w.fields w.states in
+    record {
+      few = b'.room;
+      lines_long = b'.lines_long;
+      named_long = ap length named ∙ named_long xs;
+      finals_long = b'.fields_long;
+      updates_long = b'.states_long;
+      reads_at = c.number_states.ensures;
+      writes_at = c.number_states-2.ensures ∙ ap (λ (n : ℕ). numbered n N) first;
+      room = l.room;
+      reads_first = l.reads_first;
+      writes_last = l.writes_last;
+      plain = l.plain;
+      ordered = l.ordered;
+      lines_below = l.lines_below;
+      finals_below = l.finals_below;
+      updates_below = l.updates_below;
+    }
 
 pub returns : goal.returns
 returns c =
@@ -51,6 +47,7 @@ returns c =
       there = states_there c.args.t.now _ exact;
       order = in_order _;
       meaning = keeps_meaning c.args.t.now _ exact;
-      words = makes_words c.args.t.now _ exact;
       makes = each_makes _;
+      words = makes_words c.args.t.now _ exact;
+      blank = b'.blank;
     }
