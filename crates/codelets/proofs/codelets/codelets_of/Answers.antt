@@ -21,7 +21,7 @@ loop-s-preserved c =
     ]
 
 pub invariant_of-result : goal.invariant_of-result
-invariant_of-result c = (below_owned _ _ _ c.loop-s-test.false c.loop-s.invariant, (below_alone _ _ _ c.loop-s-test.false c.loop-s.invariant, tt))
+invariant_of-result c = record { owned = below_owned _ _ _ c.loop-s-test.false c.loop-s.invariant; alone = below_alone _ _ _ c.loop-s-test.false c.loop-s.invariant }
 
 pub returns : goal.returns
 returns c =
