@@ -88,8 +88,8 @@ fn seeds(c: &Codelets) -> Marks
 
 // Marks beside the marked lines those inside that a path leads to from one of them, over lines inside alone and against the edges.
 fn trace<G: Graph>(g: &G, inside: &Marks, marks: &mut Marks)
-    ensures paths { (n : ℕ) → n < nodes g.now → Decides (slice_index_or marks.new.on n false) (Led (nodes g.now) (λ a b. slice_index_or inside.now.on a false && (slice_index_or inside.now.on b false && joins g.now b a)) marks.old.on n) }
-    ensures others { (n : ℕ) → nodes g.now ≤ n → slice_index_or marks.new.on n false ≡ slice_index_or marks.old.on n false }
+    ensures paths { (n : ℕ) → n < G.nodes g.now → Decides (slice_index_or marks.new.on n false) (Led (G.nodes g.now) (λ a b. slice_index_or inside.now.on a false && (slice_index_or inside.now.on b false && G.joins g.now b a)) marks.old.on n) }
+    ensures others { (n : ℕ) → G.nodes g.now ≤ n → slice_index_or marks.new.on n false ≡ slice_index_or marks.old.on n false }
 {
     let turned = Turned(g);
     let part = Within {

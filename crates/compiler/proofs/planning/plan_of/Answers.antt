@@ -34,7 +34,7 @@ invariant_of-result g c =
     let k = c.in_ok-codelets.codelets in
     let p = c.in_ok-placement.placement in
     let w = c.in_ok-placement.ensures in
-    (some_stage k c.args.limits.now p w.1, (few_stages k c.args.limits.now p w.1, (earlier k c.args.limits.now p w.0 w.1, tt)))
+    record { some_stage = some_stage k c.args.limits.now p w.1; few_stages = few_stages k c.args.limits.now p w.1; earlier = earlier k c.args.limits.now p w.0 w.1 }
 
 pub returns : goal.returns
 returns g c =
