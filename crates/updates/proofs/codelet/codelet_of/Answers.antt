@@ -8,4 +8,4 @@ use Rattle.updates.proofs.codelet.codelet_of.Goals as goal
 pub invariant_of-result : goal.invariant_of-result
 invariant_of-result c =
     let r = c.args.codelets.now.lines in
-    (subst (λ (inner : List Bool). lower_from 0 r.lines inner ≡ true) (sym c.inner_lines-inner.ensures) (inner_lower r c.args.s (is_inner r c.args.s) (λ n e. (and_parts _ _ e).0)), tt)
+    record { lower = subst (λ (inner : List Bool). lower_from 0 r.lines inner ≡ true) (sym c.inner_lines-inner.ensures) (inner_lower r c.args.s (is_inner r c.args.s) (λ n e. (and_parts _ _ e).0)) }
