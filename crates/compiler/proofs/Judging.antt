@@ -6,7 +6,7 @@ use Rattle.transaction.specs.Faults.{refusal}
 use Rattle.image.specs.Reading.{Answer, good, bad}
 use Rattle.lines.specs.declared.line.Source.{Source}
 use Rattle.lines.specs.declared.lines.Lines.{Lines}
-use Rattle.lines.specs.Exact.{Exactly}
+use Rattle.lines.specs.Unique.{IsTableOf}
 use Rattle.lines.proofs.OneTable.{unique}
 use Rattle.codelets.specs.Codelets.{crowded, Shares, Smallest}
 use Rattle.codelets.proofs.Paths.{crowded_decides, named_below}
@@ -75,6 +75,6 @@ module _ (takes : Codelet → Decided → Source → Bool) (r : Lines) (D P Q : 
           past_taken (good n) (ap {B = Answer ℕ} (λ (k : ℕ). good k) e ∙ sym (ap {B = Answer ℕ} (λ b. cond b (bad (refusal 10 (needed r P Q))) (good (needed r P Q))) (le-ltb D (needed r P Q) (omega arith))))
 
 -- what one table of the lines comes to, every such table comes to
-pub by_lines : (takes : Codelet → Decided → Source → Bool) (xs : List Statement) (D P Q : ℕ) (a : Answer ℕ) (r : Lines) → Exactly xs r → a ≡ judged takes r D P Q → StatementsJudged takes xs D P Q a
+pub by_lines : (takes : Codelet → Decided → Source → Bool) (xs : List Statement) (D P Q : ℕ) (a : Answer ℕ) (r : Lines) → IsTableOf xs r → a ≡ judged takes r D P Q → StatementsJudged takes xs D P Q a
 by_lines takes xs D P Q a r x e =
     record { lines = r; exact = x; answer = e; every = λ s y. e ∙ ap {B = Answer ℕ} (λ (t : Lines). judged takes t D P Q) (unique xs r s x y) }

@@ -7,7 +7,7 @@ use Rattle.transaction.specs.Programs.{statements_of, program_of}
 use Rattle.image.specs.Reading.{Answer, good, bad, image_says}
 use Rattle.lines.specs.declared.line.Source.{Source}
 use Rattle.lines.specs.declared.lines.Lines.{Lines}
-use Rattle.lines.specs.Exact.{Exactly}
+use Rattle.lines.specs.Unique.{IsTableOf}
 use Rattle.codelets.specs.declared.codelets.Codelets.{Codelets}
 use Rattle.codelets.specs.declared.fault.CodeletFault.{CodeletFault}
 use Rattle.codelets.specs.declared.fault.CodeletFault.TheVariants.{TwoStates}
@@ -49,23 +49,23 @@ module _ (plus minus : ℕ → ℕ → ℕ) (takes : Codelet → Decided → Sou
     pub verdict : TransactionJudged takes t limits (outcome a)
     pub plan : TransactionPlanned plus minus ran t limits a
 
-  refused : (r : Lines) → Exactly (statements_of t) r → (a : Result Plan CompileFault) (f : CompileFault) → a ≡ Err f → bad (compile_refusal f) ≡ judged takes r limits.stages limits.lines limits.atoms → Told a
+  refused : (r : Lines) → IsTableOf (statements_of t) r → (a : Result Plan CompileFault) (f : CompileFault) → a ≡ Err f → bad (compile_refusal f) ≡ judged takes r limits.stages limits.lines limits.atoms → Told a
   refused r x a f e j = rw e (record { verdict = by_lines takes (statements_of t) limits.stages limits.lines limits.atoms _ r x j; plan = tt })
 
-  pub exit_codelets : (r : Lines) → Exactly (statements_of t) r → (a : Result Plan CompileFault) (y : CompileFault) (f : CodeletFault) → a ≡ Err y → y ≡ InCodelets f → SharedBy r f → Told a
+  pub exit_codelets : (r : Lines) → IsTableOf (statements_of t) r → (a : Result Plan CompileFault) (y : CompileFault) (f : CodeletFault) → a ≡ Err y → y ≡ InCodelets f → SharedBy r f → Told a
   exit_codelets r x a y (TwoStates s) e q m = refused r x a (InCodelets (TwoStates s)) (e ∙ ap Err q) (shared takes r limits.stages limits.lines limits.atoms s m)
 
-  pub exit_settings : (k : Codelets) → Exactly (statements_of t) k.lines → (a : Result Plan CompileFault) (y : CompileFault) (f : AtomFault) → a ≡ Err y → y ≡ Atoms f → Set plus minus takes ran k.lines (Err f) → Told a
+  pub exit_settings : (k : Codelets) → IsTableOf (statements_of t) k.lines → (a : Result Plan CompileFault) (y : CompileFault) (f : AtomFault) → a ≡ Err y → y ≡ Atoms f → Set plus minus takes ran k.lines (Err f) → Told a
   exit_settings k x a y (Setting n) e q m = absurd m
   exit_settings k x a y (Update s) e q m =
       refused k.lines x a (Atoms (Update s)) (e ∙ ap Err q) (outside takes k.lines limits.stages limits.lines limits.atoms k.alone s m.0 m.1 m.2)
 
-  pub exit_stages : (k : Codelets) → Exactly (statements_of t) k.lines → (settings : List (List ℕ)) → Set-below plus minus takes ran k.lines 8 settings → (a : Result Plan CompileFault) (y : CompileFault) (f : StageFault) → a ≡ Err y → y ≡ Stages f → TooDeep k.lines limits f → Told a
+  pub exit_stages : (k : Codelets) → IsTableOf (statements_of t) k.lines → (settings : List (List ℕ)) → Set-below plus minus takes ran k.lines 8 settings → (a : Result Plan CompileFault) (y : CompileFault) (f : StageFault) → a ≡ Err y → y ≡ Stages f → TooDeep k.lines limits f → Told a
   exit_stages k x settings b a y f e q m =
       refused k.lines x a (Stages f) (e ∙ ap Err q) (deep takes k.lines limits.stages limits.lines limits.atoms k.alone b.taken f.needed (m.needed ∙ needed_same k.lines m.sorts m.rows m.placed limits.lines limits.atoms) m.more)
 
   pub planned : (k : Codelets) → Found t k.lines → (plan : Plan) → plan.transaction ≡ t → plan.placement.codelets ≡ k → Set-below plus minus takes ran k.lines 8 plan.settings → WellPlaced k.lines limits plan.placement → Told (Ok plan)
-  planned k found plan e q b w = record { verdict = by_lines takes (statements_of t) limits.stages limits.lines limits.atoms _ k.lines found.exact judgement; plan = record { transaction = e; stages = stages; sound = sound } }
+  planned k found plan e q b w = record { verdict = by_lines takes (statements_of t) limits.stages limits.lines limits.atoms _ k.lines (record { exact = found.exact; blank = found.blank }) judgement; plan = record { transaction = e; stages = stages; sound = sound } }
     where
       same : lines_in plan ≡ k.lines
       same = ap {B = Lines} (λ (c : Codelets). c.lines) q

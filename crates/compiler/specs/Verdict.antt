@@ -10,7 +10,7 @@ use Rattle.transaction.specs.WellFormed.{Program}
 use Rattle.image.specs.Reading.{Answer, good, bad, image_says}
 use Rattle.lines.specs.declared.line.Source.{Source}
 use Rattle.lines.specs.declared.lines.Lines.{Lines}
-use Rattle.lines.specs.Exact.{Exactly}
+use Rattle.lines.specs.Unique.{IsTableOf}
 use Rattle.codelets.specs.Codelets.{is_named, crowded}
 use Rattle.stages.specs.declared.fault.LimitFault.{LimitFault}
 use Rattle.stages.specs.declared.limits.Limits.{Limits}
@@ -73,10 +73,10 @@ admitted len image d p q = refused_limit (first_out d p q) (cond (nat_lt 64 len)
 -- an answer to statements: what their lines come to
 pub record StatementsJudged (takes : Codelet → Decided → Source → Bool) (xs : List Statement) (d p q : ℕ) (a : Answer ℕ) : Type 0 where
   pub lines : Lines
-  pub exact : Exactly xs lines
+  pub exact : IsTableOf xs lines
   pub answer : a ≡ judged takes lines d p q
-  -- whatever table holds the lines of the statements, the answer is what it comes to
-  pub every : (r : Lines) → Exactly xs r → a ≡ judged takes r d p q
+  -- whatever is the table of the statements, the answer is what it comes to
+  pub every : (r : Lines) → IsTableOf xs r → a ≡ judged takes r d p q
 
 abbrev pub TransactionJudged : (Codelet → Decided → Source → Bool) → Transaction → Limits → Answer ℕ → Type 0
 TransactionJudged takes t l a = StatementsJudged takes (statements_of t) l.stages l.lines l.atoms a

@@ -3,8 +3,8 @@ ghost use Rattle.std.specs.Prelude.{◌≤◌};
 ghost use Rattle.compiler.specs.Verdict.{outcome, TransactionJudged, Verdict};
 ghost use Rattle.compiler.specs.Planned.{TransactionPlanned, Planned};
 
+use crate::atom_settings::{check_length, settings_of};
 use crate::fault::CompileFault;
-use crate::settings::{check_length, settings_of};
 use atoms::Atom;
 use codelets::codelets_of;
 use image::read_image;

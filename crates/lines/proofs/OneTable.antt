@@ -9,9 +9,15 @@ use Rattle.lines.specs.declared.line.Line.TheVariants.{Read}
 use Rattle.lines.specs.declared.lines.Lines.{Lines}
 use Rattle.lines.specs.contracts.lines.Lines.{struct, the_type}
 use Rattle.lines.specs.Exact.{Exactly}
-use Rattle.lines.specs.Unique.{IsBlankPast, LinesUnique}
+use Rattle.lines.specs.Unique.{IsTableOf, LinesUnique}
 
-module _ (xs : List Statement) (r s : Lines) (x : Exactly xs r) (y : Exactly xs s) (clean : IsBlankPast r) (tidy : IsBlankPast s) where
+module _ (xs : List Statement) (r s : Lines) (t : IsTableOf xs r) (u : IsTableOf xs s) where
+  x : Exactly xs r
+  x = t.exact
+
+  y : Exactly xs s
+  y = u.exact
+
   counts : r.count ≡ s.count
   counts = x.count ∙ sym y.count
 
@@ -20,7 +26,7 @@ module _ (xs : List Statement) (r s : Lines) (x : Exactly xs r) (y : Exactly xs 
       sym (get_or-take r.count r.lines n (Read 0) h)
       ∙ ap {B = Line} (λ l. get_or l n (Read 0)) (x.lines ∙ sym y.lines)
       ∙ get_or-take s.count s.lines n (Read 0) (omega (arith, counts))
-  lines_at n (inr h) = clean n h ∙ sym (tidy n (omega (arith, counts)))
+  lines_at n (inr h) = t.blank n h ∙ sym (u.blank n (omega (arith, counts)))
 
   tables : r.lines ≡ s.lines
   tables = ext_get_or (Read 0) r.lines s.lines (r.lines_long ∙ sym s.lines_long) (λ n _. lines_at n (cases_lt n r.count))

@@ -9,5 +9,10 @@ use Rattle.lines.specs.Exact.{Exactly}
 abbrev pub IsBlankPast : Lines → Type 0
 IsBlankPast r = (n : ℕ) → r.count ≤ n → slice_index_or r.lines n (Read 0) ≡ Read 0
 
+-- the table of these statements: it holds their lines, and nothing past them
+pub record IsTableOf (xs : List Statement) (r : Lines) : Type 0 where
+  pub exact : Exactly xs r
+  pub blank : IsBlankPast r
+
 abbrev pub LinesUnique : Type 0
-LinesUnique = (xs : List Statement) (r s : Lines) → Exactly xs r → Exactly xs s → IsBlankPast r → IsBlankPast s → r ≡ s
+LinesUnique = (xs : List Statement) (r s : Lines) → IsTableOf xs r → IsTableOf xs s → r ≡ s

@@ -4,6 +4,7 @@ use Rattle.transaction.specs.declared.transaction.Transaction.{Transaction}
 use Rattle.transaction.specs.Programs.{statements_of}
 use Rattle.lines.specs.declared.lines.Lines.{Lines}
 use Rattle.lines.specs.Exact.{Exactly, NamedThere, InOrder}
+use Rattle.lines.specs.Unique.{IsBlankPast}
 use Rattle.lines.specs.Meaning.{KeepsMeaning, EachMakes, MakesWords}
 use Rattle.codelets.specs.Codelets.{is_named}
 use Rattle.stages.specs.declared.limits.Limits.{Limits}
@@ -25,6 +26,7 @@ pub record Found (t : Transaction) (r : Lines) : Type 0 where
   pub meaning : KeepsMeaning t r
   pub makes : EachMakes r
   pub words : MakesWords r
+  pub blank : IsBlankPast r
 
 pub sound_from : (plus minus : ℕ → ℕ → ℕ) (ran : List ℕ → ℕ → Packet → ℕ) (limits : Limits) (plan : Plan) (t : Transaction) (r : Lines) → plan.transaction ≡ t → lines_in plan ≡ r → Found t r → WellPlaced r limits plan.placement → ((s : ℕ) → is_named r s ≡ true → Right plus minus ran (codelet_of r s) undecided (update_of r s) (setting_of plan s)) → Sound plus minus ran limits plan
 sound_from plus minus ran limits plan t r e same found placed settings =
@@ -35,6 +37,7 @@ sound_from plus minus ran limits plan t r e same found placed settings =
       meaning = along KeepsMeaning found.meaning;
       makes = along (λ u l. EachMakes l) found.makes;
       words = along (λ u l. MakesWords l) found.words;
+      blank = along (λ u l. IsBlankPast l) found.blank;
       placed = along (λ u l. WellPlaced l limits plan.placement) placed;
       settings = along (λ u l. (s : ℕ) → is_named l s ≡ true → Right plus minus ran (codelet_of l s) undecided (update_of l s) (setting_of plan s)) settings;
     }

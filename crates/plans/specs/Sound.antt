@@ -2,6 +2,7 @@
 use Rattle.std.specs.Prelude.{◌≡◌, ℕ, true, List}
 use Rattle.transaction.specs.Programs.{statements_of, program_of}
 use Rattle.lines.specs.Exact.{Exactly, NamedThere, InOrder}
+use Rattle.lines.specs.Unique.{IsBlankPast}
 use Rattle.lines.specs.Meaning.{KeepsMeaning, EachMakes, MakesWords}
 use Rattle.codelets.specs.Codelets.{is_named}
 use Rattle.stages.specs.declared.limits.Limits.{Limits}
@@ -26,6 +27,7 @@ pub record Sound (plus minus : ℕ → ℕ → ℕ) (ran : List ℕ → ℕ → 
   pub meaning : KeepsMeaning plan.transaction (lines_in plan)
   pub makes : EachMakes (lines_in plan)
   pub words : MakesWords (lines_in plan)
+  pub blank : IsBlankPast (lines_in plan)
   -- its nodes stand in the stages that the definitions give, and what a node reads is made in an earlier stage
   pub placed : WellPlaced (lines_in plan) limits plan.placement
   -- each named state's setting is right for its update

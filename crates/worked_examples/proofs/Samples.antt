@@ -8,7 +8,7 @@ use Rattle.lines.specs.declared.line.Source.{Source}
 use Rattle.lines.specs.declared.line.Source.TheVariants.{Field as Incoming, Line as Made, Constant as Fixed}
 use Rattle.lines.specs.declared.line.Line.TheVariants.{Read, Sub as LSub, Write}
 use Rattle.lines.specs.declared.lines.Lines.{Lines}
-use Rattle.lines.specs.Exact.{Exactly}
+use Rattle.lines.specs.Unique.{IsTableOf}
 use Rattle.lines.specs.Examples.{sampling}
 use Rattle.rows.specs.Samples.{sampling as sampling_list, chained as chained_list, crossed as crossed_list}
 use Rattle.worked_examples.proofs.Tables.{MadeOf, Told, tabled, tabled_exactly}
@@ -43,7 +43,7 @@ sampling_told = record { lines = refl; count = refl; taken = refl; few = lit≤ 
 abbrev pub sampling_table : Lines
 sampling_table = tabled sampling sampling_made sampling_told
 
-pub sampling_exactly : Exactly sampling sampling_table
+pub sampling_exactly : IsTableOf sampling sampling_table
 sampling_exactly = tabled_exactly sampling sampling_made sampling_told
 
 abbrev pub chained : List Statement
@@ -68,7 +68,7 @@ chained_told = record { lines = refl; count = refl; taken = refl; few = lit≤ t
 abbrev pub chained_table : Lines
 chained_table = tabled chained chained_made chained_told
 
-pub chained_exactly : Exactly chained chained_table
+pub chained_exactly : IsTableOf chained chained_table
 chained_exactly = tabled_exactly chained chained_made chained_told
 
 abbrev pub crossed : List Statement
@@ -93,7 +93,7 @@ crossed_told = record { lines = refl; count = refl; taken = refl; few = lit≤ t
 abbrev pub crossed_table : Lines
 crossed_table = tabled crossed crossed_made crossed_told
 
-pub crossed_exactly : Exactly crossed crossed_table
+pub crossed_exactly : IsTableOf crossed crossed_table
 crossed_exactly = tabled_exactly crossed crossed_made crossed_told
 
 abbrev pub countdown : List Statement
@@ -118,7 +118,7 @@ countdown_told = record { lines = refl; count = refl; taken = refl; few = lit≤
 abbrev pub countdown_table : Lines
 countdown_table = tabled countdown countdown_made countdown_told
 
-pub countdown_exactly : Exactly countdown countdown_table
+pub countdown_exactly : IsTableOf countdown countdown_table
 countdown_exactly = tabled_exactly countdown countdown_made countdown_told
 
 abbrev pub nothing : List Statement
@@ -143,5 +143,5 @@ nothing_told = record { lines = refl; count = refl; taken = refl; few = lit≤ t
 abbrev pub nothing_table : Lines
 nothing_table = tabled nothing nothing_made nothing_told
 
-pub nothing_exactly : Exactly nothing nothing_table
+pub nothing_exactly : IsTableOf nothing nothing_table
 nothing_exactly = tabled_exactly nothing nothing_made nothing_told

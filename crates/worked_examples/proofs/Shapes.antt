@@ -4,7 +4,7 @@ use Rattle.transaction.specs.WellFormed.{Program}
 use Rattle.transaction.specs.Programs.{program_of}
 use Rattle.image.specs.Reading.{Answer, good, bad, image_says}
 use Rattle.lines.specs.declared.lines.Lines.{Lines}
-use Rattle.lines.specs.Exact.{Exactly}
+use Rattle.lines.specs.Unique.{IsTableOf}
 use Rattle.lines.proofs.OneTable.{unique}
 use Rattle.codelets.specs.Codelets.{is_named, read_of}
 use Rattle.stages.specs.Filling.{stage_of}
@@ -32,13 +32,13 @@ abbrev told : Program → Answer Program → Program
 told p (good q) = q
 told p (bad f) = p
 
-module _ (plus minus : ℕ → ℕ → ℕ) (ran : List ℕ → ℕ → Packet → ℕ) (image : List ℕ) (p : Program) (r : Lines) (said : image_says image ≡ good p) (exact : Exactly p.statements r) (D P Q : ℕ) (plan : Plan) (x : ImagePlanned plus minus ran image D P Q plan) where
+module _ (plus minus : ℕ → ℕ → ℕ) (ran : List ℕ → ℕ → Packet → ℕ) (image : List ℕ) (p : Program) (r : Lines) (said : image_says image ≡ good p) (exact : IsTableOf p.statements r) (D P Q : ℕ) (plan : Plan) (x : ImagePlanned plus minus ran image D P Q plan) where
   pub program_same : program_of plan.transaction ≡ p
   program_same = ap {B = Program} (told p) (sym x.read ∙ said)
 
   lines_same : lines_in plan ≡ r
   lines_same =
-      unique p.statements (lines_in plan) r (subst (λ (q : Program). Exactly q.statements (lines_in plan)) program_same x.planned.sound.lines) exact
+      unique p.statements (lines_in plan) r (subst (λ (q : Program). IsTableOf q.statements (lines_in plan)) program_same (record { exact = x.planned.sound.lines; blank = x.planned.sound.blank })) exact
 
   depth_same : plan.placement.stages.count ≡ needed r P Q
   depth_same =

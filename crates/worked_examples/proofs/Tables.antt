@@ -10,6 +10,7 @@ use Rattle.lines.specs.declared.lines.Lines.{Lines}
 use Rattle.lines.specs.Named.{names, some_names, named_of, amount}
 use Rattle.lines.specs.Build.{body_of, lines_of, finals_of, updates_of, numbered}
 use Rattle.lines.specs.Exact.{Exactly}
+use Rattle.lines.specs.Unique.{IsTableOf}
 use Rattle.lines.proofs.Blank.{blank_past}
 use Rattle.lines.proofs.Finish.{mark, someone, marked_named}
 use Rattle.lines.proofs.Table.{Laid, laid}
@@ -84,11 +85,13 @@ module _ (xs : List Statement) (m : MadeOf) (t : Told xs m) where
         lines_below = laid_out.lines_below;
         finals_below = laid_out.finals_below;
         updates_below = laid_out.updates_below;
-        blank = λ n h. blank_past m.lines m.blank n (omega (arith, t.count));
       }
 
-  pub tabled_exactly : Exactly xs tabled
-  tabled_exactly =
+  pub tabled_exactly : IsTableOf xs tabled
+  tabled_exactly = record { exact = exact; blank = λ n h. blank_past m.lines m.blank n (omega (arith, t.count)) }
+    where
+      exact : Exactly xs tabled
+      exact =
       record {
         lines = t.taken ∙ t.lines;
         count = t.count ∙ ap length t.lines;

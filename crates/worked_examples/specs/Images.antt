@@ -3,7 +3,7 @@ use Rattle.std.specs.Prelude.{ℕ, List, [], ◌∷◌}
 use Rattle.transaction.specs.WellFormed.{Program}
 use Rattle.image.specs.Reading.{Answer, good, bad, image_says}
 use Rattle.lines.specs.declared.lines.Lines.{Lines}
-use Rattle.lines.specs.Exact.{Exactly}
+use Rattle.lines.specs.Unique.{IsTableOf}
 
 -- every tenth packet is marked in field 0: f1 := s0 = 9; if f1; f0 := 1; s0 := 0; else; f0 := 0; s0 := s0 + 1; end
 abbrev pub sampling_image : List ℕ
@@ -27,7 +27,7 @@ empty_image = 1 ∷ 1 ∷ 0 ∷ 0 ∷ []
 
 -- a table that holds the lines of what was read
 abbrev pub HoldsLines : Answer Program → Lines → Type 0
-HoldsLines (good t) r = Exactly t.statements r
+HoldsLines (good t) r = IsTableOf t.statements r
 HoldsLines (bad f) r = ⊥
 
 -- a table that holds the lines of an image

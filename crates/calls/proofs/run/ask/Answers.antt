@@ -33,7 +33,7 @@ returns-in-Take g c =
     let was : c.deref-mut.result.now ≡ vec_items v = c.deref-mut.ensures.value in
     record {
       did =
-          renamed g.Arith.Arithmetic.plus g.Arith.Arithmetic.minus g.A.Atom.ran (book.Call.Take (length c.deref-mut.result.now)) (call_of c.args.asked.now.call) (answered (λ _. book.Outcome.packet o) r) (answer_of (Take (with_items v o)) c.outcome-asked-in-Take.result) c.args.machine.now c.take-r.new.self
+          renamed g.A.Arith.Arithmetic.plus g.A.Arith.Arithmetic.minus g.A.Atom.ran (book.Call.Take (length c.deref-mut.result.now)) (call_of c.args.asked.now.call) (answered (λ _. book.Outcome.packet o) r) (answer_of (Take (with_items v o)) c.outcome-asked-in-Take.result) c.args.machine.now c.take-r.new.self
           (ap {B = book.Call} call_of c.in-Take.is ∙ ap {B = book.Call} (λ (l : List ℕ). book.Call.Take (length l)) (sym was))
           (c.outcome-asked-in-Take.ensures.answer (Take (with_items v o)) ∙ ap {B = Answer book.Outcome} (λ (l : List ℕ). answered (λ _. book.Outcome.packet l) r) filled)
           c.take-r.ensures.did;
@@ -55,7 +55,7 @@ returns-in-Peek g c =
     let x = c.sight-asked.result in
     record {
       did =
-          renamed g.Arith.Arithmetic.plus g.Arith.Arithmetic.minus g.A.Atom.ran (book.Call.Peek s) (call_of c.args.asked.now.call) (answered (λ p. book.Outcome.word p.0 p.1) c.peek-r.result) (answer_of (Peek s) x) c.args.machine.now c.args.machine.now (ap {B = book.Call} call_of c.in-Peek.is) (c.sight-asked.ensures (Peek s)) c.peek-r.ensures;
+          renamed g.A.Arith.Arithmetic.plus g.A.Arith.Arithmetic.minus g.A.Atom.ran (book.Call.Peek s) (call_of c.args.asked.now.call) (answered (λ p. book.Outcome.word p.0 p.1) c.peek-r.result) (answer_of (Peek s) x) c.args.machine.now c.args.machine.now (ap {B = book.Call} call_of c.in-Peek.is) (c.sight-asked.ensures (Peek s)) c.peek-r.ensures;
       call = sym (ap {B = book.Call} call_of c.in-Peek.is);
       spares = subst (λ (k : Call). Spares x k (Peek s)) (sym c.in-Peek.is) (spares_peek x s);
     }

@@ -12,8 +12,8 @@ loop-i-init g c = (so_far_none _ c.args.asked.now (contents c.args.machine.now),
 
 pub loop-i-preserved : goal.loop-i-preserved
 loop-i-preserved g c =
-    let plus = g.Arith.Arithmetic.plus in
-    let minus = g.Arith.Arithmetic.minus in
+    let plus = g.A.Arith.Arithmetic.plus in
+    let minus = g.A.Arith.Arithmetic.minus in
     let ran = g.A.Atom.ran in
     let m = c.loop-i.machine in
     let m' = c.ask.new.machine in

@@ -19,5 +19,5 @@ returns c =
     record {
       program = c.nothing-transaction.ensures;
       image = ap {B = Answer Program} good (sym c.nothing-transaction.ensures);
-      sound = λ plus minus ran. sound_from plus minus ran one _ t r refl c.one_stage-placement.ensures.lines (record { exact = l.exact; there = l.there; order = l.order; meaning = l.meaning; makes = l.makes; words = l.words }) c.one_stage-placement.ensures.placed (λ s n. absurd (both_ways _ (empty.unnamed s) n));
+      sound = λ plus minus ran. sound_from plus minus ran one _ t r refl c.one_stage-placement.ensures.lines (record { exact = l.exact; there = l.there; order = l.order; meaning = l.meaning; makes = l.makes; words = l.words; blank = l.blank }) c.one_stage-placement.ensures.placed (λ s n. absurd (both_ways _ (empty.unnamed s) n));
     }

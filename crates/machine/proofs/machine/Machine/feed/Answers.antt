@@ -12,7 +12,7 @@ pub returns-in_err-number : goal.returns-in_err-number
 returns-in_err-number g c =
     let f = c.in_err-number.field-0.0 in
     let e : c.from_residual.result ≡ Err f = search rules in
-    did_nothing g.Arith.Arithmetic.plus g.Arith.Arithmetic.minus g.A.Atom.ran (Feed c.args.fields.now) (λ _. done) c.from_residual.result f c.args.self.now (λ i. (c.type_inv.fields i).fits) e
+    did_nothing g.A.Arith.Arithmetic.plus g.A.Arith.Arithmetic.minus g.A.Atom.ran (Feed c.args.fields.now) (λ _. done) c.from_residual.result f c.args.self.now (λ i. (c.type_inv.fields i).fits) e
     c.in_err-number.ensures.answer
 
 pub returns : goal.returns
@@ -20,7 +20,7 @@ returns g c =
     let m = c.args.self.now in
     let n = c.in_ok-number.number in
     let number : n ≡ suc (count_at (contents m) 0) = c.in_ok-number.ensures.number in
-    did g.Arith.Arithmetic.plus g.Arith.Arithmetic.minus g.A.Atom.ran (Feed c.args.fields.now) (good done) m _ (λ i. (c.type_inv.fields i).fits)
+    did g.A.Arith.Arithmetic.plus g.A.Arith.Arithmetic.minus g.A.Atom.ran (Feed c.args.fields.now) (good done) m _ (λ i. (c.type_inv.fields i).fits)
     c.in_ok-number.ensures.answer
     (record {
       places = c.put.ensures ∙ ap {B = List (Option ℕ)} (λ (i : ℕ). set m.places 0 (Some i)) number;

@@ -5,7 +5,7 @@ use Rattle.machine.proofs.machine.Machine.load.Goals as goal
 pub returns : goal.returns
 returns g c =
     record {
-      fresh = empty_fresh g.Arith.Arithmetic.plus g.Arith.Arithmetic.minus g.A.Atom.ran c.args.plan c.args.self.now.rows c.args.self.now.rows_long;
+      fresh = empty_fresh g.A.Arith.Arithmetic.plus g.A.Arith.Arithmetic.minus g.A.Atom.ran c.args.plan c.args.self.now.rows c.args.self.now.rows_long;
       plan = refl;
       atom = refl;
     }

@@ -21,4 +21,4 @@ keeps (Answer.bad f) m = refl
 
 pub returns : goal.returns
 returns g c =
-    did g.Arith.Arithmetic.plus g.Arith.Arithmetic.minus g.A.Atom.ran (Peek c.args.s) (answered (λ p. word p.0 p.1) c.glance.result) c.args.self.now c.args.self.now tt c.glance.ensures (stays _ c.args.s _ (contents c.args.self.now)) (keeps _ c.args.self.now) refl refl
+    did g.A.Arith.Arithmetic.plus g.A.Arith.Arithmetic.minus g.A.Atom.ran (Peek c.args.s) (answered (λ p. word p.0 p.1) c.glance.result) c.args.self.now c.args.self.now tt c.glance.ensures (stays _ c.args.s _ (contents c.args.self.now)) (keeps _ c.args.self.now) refl refl

@@ -7,7 +7,7 @@ use Rattle.atoms.specs.Rightness.{Right}
 use Rattle.updates.specs.Inner.{update_of}
 use Rattle.plans.specs.Updates.{codelet_of}
 use Rattle.compiler.proofs.Fitting.{the_codelet, room, answered}
-use Rattle.compiler.proofs.settings.setting_of.Goals as goal
+use Rattle.compiler.proofs.atom_settings.setting_of.Goals as goal
 
 pub returns-then-fit : goal.returns-then-fit
 returns-then-fit g c =
@@ -19,7 +19,7 @@ returns-then-fit g c =
     let u : c.update_of.result ≡ update_of r s = c.update_of.ensures in
     let right = c.fit.ensures.right c.if-fit.true (room g.A.Atom.len (replicate 64 0) c.requires refl) in (
       answered g.A.Atom.takes r s _ _ _ c.fit.result true e d u c.fit.ensures.answer c.if-fit.true,
-      subst (λ (x : Source). Right g.Arith.Arithmetic.plus g.Arith.Arithmetic.minus g.A.Atom.ran (codelet_of r s) undecided x c.fit.new.buffer) u (subst (λ (x : Decided). Right g.Arith.Arithmetic.plus g.Arith.Arithmetic.minus g.A.Atom.ran (codelet_of r s) x c.update_of.result c.fit.new.buffer) d (subst (λ (x : Codelet). Right g.Arith.Arithmetic.plus g.Arith.Arithmetic.minus g.A.Atom.ran x c.none.result c.update_of.result c.fit.new.buffer) e right)),
+      subst (λ (x : Source). Right g.A.Arith.Arithmetic.plus g.A.Arith.Arithmetic.minus g.A.Atom.ran (codelet_of r s) undecided x c.fit.new.buffer) u (subst (λ (x : Decided). Right g.A.Arith.Arithmetic.plus g.A.Arith.Arithmetic.minus g.A.Atom.ran (codelet_of r s) x c.update_of.result c.fit.new.buffer) d (subst (λ (x : Codelet). Right g.A.Arith.Arithmetic.plus g.A.Arith.Arithmetic.minus g.A.Atom.ran x c.none.result c.update_of.result c.fit.new.buffer) e right)),
     )
 
 pub returns-else-fit : goal.returns-else-fit
