@@ -17,7 +17,7 @@ returns g c =
     let few : c.idle_plan.result.placement.stages.count ≤ 1 = (c.idle_plan.ensures.sound g.A.Arith.Arithmetic.plus g.A.Arith.Arithmetic.minus g.A.Atom.ran).placed.within in
     record {
       fresh = subst (λ (y : Plan). Fresh (pipeline_of g.A.Arith.Arithmetic.plus g.A.Arith.Arithmetic.minus g.A.Atom.ran y) (contents c.of_plan.result)) (sym same) c.of_plan.ensures.fresh;
-      right = subst (λ (y : Plan). Right (pipeline_of g.A.Arith.Arithmetic.plus g.A.Arith.Arithmetic.minus g.A.Atom.ran y) (one_alone g.A.Arith.Arithmetic.plus g.A.Arith.Arithmetic.minus idle_program)) (sym same) (right_for g.A.Arith.Arithmetic.plus g.A.Arith.Arithmetic.minus g.A.Atom.ran g.met.Arith.Arithmetic.sums g.met.Arith.Arithmetic.differences one c.idle_plan.result idle_program (c.idle_plan.ensures.sound g.A.Arith.Arithmetic.plus g.A.Arith.Arithmetic.minus g.A.Atom.ran) c.idle_plan.ensures.program);
+      right = subst (λ (y : Plan). Right (pipeline_of g.A.Arith.Arithmetic.plus g.A.Arith.Arithmetic.minus g.A.Atom.ran y) (one_alone g.A.Arith.Arithmetic.plus g.A.Arith.Arithmetic.minus idle_program)) (sym same) (right_for g.A.Arith.Arithmetic.plus g.A.Arith.Arithmetic.minus g.A.Atom.ran g.met.A.Arith.Arithmetic.sums g.met.A.Arith.Arithmetic.differences one c.idle_plan.result idle_program (c.idle_plan.ensures.sound g.A.Arith.Arithmetic.plus g.A.Arith.Arithmetic.minus g.A.Atom.ran) c.idle_plan.ensures.program);
       program = subst (λ (y : Plan). program_of y.transaction ≡ idle_program) (sym same) c.idle_plan.ensures.program;
       depth = subst (λ (y : Plan). y.placement.stages.count ≡ 1) (sym same) (omega (arith, some, few));
       atom = c.of_plan.ensures.atom;

@@ -12,7 +12,7 @@ returns g c =
     record {
       verdict = subst (λ (y : Plan). Verdict g.A.Atom.len g.A.Atom.takes c.args.image.now c.args.d c.args.p c.args.q (good y.placement.stages.count)) (sym same) made.verdict;
       started = (
-        begins g.A.Arith.Arithmetic.plus g.A.Arith.Arithmetic.minus g.A.Atom.ran g.met.Arith.Arithmetic.sums g.met.Arith.Arithmetic.differences c.args.image.now c.args.d c.args.p c.args.q c.in_ok-plan.plan c.load.new.self same made.plan c.load.ensures.fresh,
+        begins g.A.Arith.Arithmetic.plus g.A.Arith.Arithmetic.minus g.A.Atom.ran g.met.A.Arith.Arithmetic.sums g.met.A.Arith.Arithmetic.differences c.args.image.now c.args.d c.args.p c.args.q c.in_ok-plan.plan c.load.new.self same made.plan c.load.ensures.fresh,
         c.load.ensures.atom,
       );
     }
