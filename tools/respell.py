@@ -8,13 +8,15 @@ import re
 import sys
 
 NAME = r"[A-Za-zα-ωΑ-Ωℕ_][A-Za-z0-9α-ωΑ-Ωℕ_'₀-₉⁰-⁹+*-]*"
-DEFINED = re.compile(r"(?m)^( *)((?:abbrev |unfoldable |pub |data |record )*)(" + NAME + r")(?: \([^)]*\)| \{[^}]*\})* :(?= )")
+DEFINED = re.compile(r"(?m)^( *)((?:abbrev |unfoldable |pub |data |record )*)(" + NAME + r")(?: \((?:[^()]|\([^()]*\))*\)| \{[^}]*\})* :(?= )")
 ALIAS = re.compile(r" as (" + NAME + r")(?=[,}])")
 # std's own words in names of ours
 WORDS = {"getD": "get_or"}
 # lemmas whose plain respelling is the name of what they speak of, in the same file; and a word of std's with another meaning
 LEMMAS = "add-takes choice-takes digit-of hex-digit in-row inner-of leaf-of lower-from read-of read-write-takes slot-of subtract-takes write-line"
 OWN = {n: n.replace("-", "_") + "_lem" for n in LEMMAS.split()} | {"If-some": "WhereSome"}
+# a dash that joins the names of two things that std has, as std's lemmas do
+KEPT = {"All-append", "get_or-map", "take-suc"}
 # the same, where the kit's script has respelt the lemma: by the ending of the file's path
 IN_FILE = {("Tenth.antt", "fed_by"), ("Layer.antt", "has_room"), ("Built.antt", "in_order")}
 
@@ -57,7 +59,7 @@ def table():
         made = set(re.findall(r"goal\.(" + NAME + ")", t))
         found = {m[3] for m in DEFINED.finditer(t)} | {m[1] for m in ALIAS.finditer(t)}
         every |= set(re.findall(NAME, t))
-        for n in found - made:
+        for n in found - made - KEPT:
             if re.search(r"-", n) or re.match(r"[a-z][a-z0-9]*[A-Z]", n):
                 new[n] = respelt(n)
     return new, every

@@ -23,12 +23,12 @@ module _ (P : Pipeline) (one : Values → Values) where
   EachCall = (c : Call) (b : List Packet) (m m' : Contents) → FeedsWords c → Agrees P one b m → Stepped P (reply P c m) c m m' → Called c b m m'
 
   -- any list of calls on a machine at its start
-  pub record Called-all (cs : List Call) (rs : List (Answer Outcome)) (m : Contents) : Type 0 where
+  pub record CalledAll (cs : List Call) (rs : List (Answer Outcome)) (m : Contents) : Type 0 where
     pub agrees : Agrees P one (ended P.shape one cs []) m
     pub served : Served P.shape one cs rs m
 
   abbrev pub EveryRun : Type 0
-  EveryRun = (cs : List Call) (rs : List (Answer Outcome)) (m m' : Contents) → All FeedsWords cs → Fresh P m → Ran P cs m rs m' → Called-all cs rs m'
+  EveryRun = (cs : List Call) (rs : List (Answer Outcome)) (m m' : Contents) → All FeedsWords cs → Fresh P m → Ran P cs m rs m' → CalledAll cs rs m'
 
 -- of words it makes words
 abbrev pub WordsToWords : (ℕ → ℕ → ℕ) → Type 0

@@ -92,15 +92,15 @@ module _ (xs : List Statement) (m : MadeOf) (t : Told xs m) where
     where
       exact : Exactly xs tabled
       exact =
-      record {
-        lines = t.taken ∙ t.lines;
-        count = t.count ∙ ap length t.lines;
-        few = t.few;
-        named = t.named;
-        marked = λ s e. naming s xs (marked_named xs s (ap (λ (l : List Bool). get_or l s false) (sym t.named) ∙ e));
-        naming = λ s k h g e. ap (λ (l : List Bool). get_or l s false) t.named ∙ mark xs s h ∙ someone s k xs g e;
-        finals = t.finals;
-        updates = t.updates;
-        reads = t.reads ∙ ap (numbered 0) t.named;
-        writes = t.writes ∙ ap (λ (n : ℕ). numbered n m.named) t.first ∙ ap (numbered _) t.named;
-      }
+          record {
+            lines = t.taken ∙ t.lines;
+            count = t.count ∙ ap length t.lines;
+            few = t.few;
+            named = t.named;
+            marked = λ s e. naming s xs (marked_named xs s (ap (λ (l : List Bool). get_or l s false) (sym t.named) ∙ e));
+            naming = λ s k h g e. ap (λ (l : List Bool). get_or l s false) t.named ∙ mark xs s h ∙ someone s k xs g e;
+            finals = t.finals;
+            updates = t.updates;
+            reads = t.reads ∙ ap (numbered 0) t.named;
+            writes = t.writes ∙ ap (λ (n : ℕ). numbered n m.named) t.first ∙ ap (numbered _) t.named;
+          }

@@ -30,10 +30,10 @@ returns-in-Take g c =
     let long : length o ≡ v.len = search rules in
     let filled : vec_items (with_items v o) ≡ o = whole v.len o (drop (length o) v.items) long in
     let long' : length o ≡ length (vec_items v) = search rules in
-    let was : c.deref-mut.result.now ≡ vec_items v = c.deref-mut.ensures.value in
+    let was : c.deref_mut.result.now ≡ vec_items v = c.deref_mut.ensures.value in
     record {
       did =
-          renamed g.A.Arith.Arithmetic.plus g.A.Arith.Arithmetic.minus g.A.Atom.ran (book.Call.Take (length c.deref-mut.result.now)) (call_of c.args.asked.now.call) (answered (λ _. book.Outcome.packet o) r) (answer_of (Take (with_items v o)) c.outcome-asked-in-Take.result) c.args.machine.now c.take-r.new.self
+          renamed g.A.Arith.Arithmetic.plus g.A.Arith.Arithmetic.minus g.A.Atom.ran (book.Call.Take (length c.deref_mut.result.now)) (call_of c.args.asked.now.call) (answered (λ _. book.Outcome.packet o) r) (answer_of (Take (with_items v o)) c.outcome-asked-in-Take.result) c.args.machine.now c.take-r.new.self
           (ap {B = book.Call} call_of c.in-Take.is ∙ ap {B = book.Call} (λ (l : List ℕ). book.Call.Take (length l)) (sym was))
           (c.outcome-asked-in-Take.ensures.answer (Take (with_items v o)) ∙ ap {B = Answer book.Outcome} (λ (l : List ℕ). answered (λ _. book.Outcome.packet l) r) filled)
           c.take-r.ensures.did;
