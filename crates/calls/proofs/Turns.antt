@@ -14,7 +14,7 @@ use Rattle.book.proofs.Agreement.{fresh_agrees}
 use Rattle.book.proofs.Runs.{served}
 use Rattle.calls.specs.declared.call.Asked.{Asked}
 use Rattle.calls.specs.Asking.{call_in, answer_in, Spares}
-use Rattle.calls.specs.Runs.{Booked-all, Run}
+use Rattle.calls.specs.Runs.{BookedAll, Run}
 
 map_more : (vs : List Asked) (a : Asked) → map answer_in (vs ++ a ∷ []) ≡ map answer_in vs ++ answer_in a ∷ []
 map_more [] a = refl
@@ -58,7 +58,7 @@ module _ (P : Pipeline) where
   -- the first i calls of ys are answered in xs, and the others not yet
   pub record SoFar (ys xs : List Asked) (i : ℕ) (m m' : Contents) : Type 0 where
     pub ran : Ran P (take i (map call_in ys)) m (map answer_in (take i xs)) m'
-    pub book : (one : Values → Values) (b : List Packet) → Right P one → Agrees P one b m → Booked-all P one (take i (map call_in ys)) (map answer_in (take i xs)) b m'
+    pub book : (one : Values → Values) (b : List Packet) → Right P one → Agrees P one b m → BookedAll P one (take i (map call_in ys)) (map answer_in (take i xs)) b m'
     pub ahead : drop i xs ≡ drop i ys
     pub kept : map call_in (take i xs) ≡ take i (map call_in ys)
     pub spares : (k : ℕ) (d : Asked) → k < i → Spares (get_or xs k d).answer (get_or ys k d).call (get_or xs k d).call
@@ -99,7 +99,7 @@ module _ (P : Pipeline) where
       replies : map answer_in (take (suc i) (set xs i y)) ≡ map answer_in (take i xs) ++ reply P (call_in x) m' ∷ []
       replies = made ∙ ap {B = List (Answer book.Outcome)} (λ (r : Answer book.Outcome). map answer_in (take i xs) ++ r ∷ []) turn.replies
 
-      more : (one : Values → Values) (b : List Packet) → Right P one → Booked-all P one (take i (map call_in ys)) (map answer_in (take i xs)) b m' → Booked-all P one (take (i + 1) (map call_in ys)) (map answer_in (take (i + 1) (set xs i y))) b m''
+      more : (one : Values → Values) (b : List Packet) → Right P one → BookedAll P one (take i (map call_in ys)) (map answer_in (take i xs)) b m' → BookedAll P one (take (i + 1) (map call_in ys)) (map answer_in (take (i + 1) (set xs i y))) b m''
       more one b R z =
           let cs : List book.Call = take i (map call_in ys) in
           let t = turn.book one (ended P.shape one cs b) R z.agrees in
@@ -131,7 +131,7 @@ module _ (P : Pipeline) where
       whole : take i (map call_in ys) ≡ map call_in ys
       whole = take_all i (map call_in ys) (subst (λ (n : ℕ). n ≤ i) (sym (length-map ys call_in)) h)
 
-      all : (one : Values → Values) (b : List Packet) → Right P one → Agrees P one b m → Booked-all P one (map call_in ys) (map answer_in xs) b m'
+      all : (one : Values → Values) (b : List Packet) → Right P one → Agrees P one b m → BookedAll P one (map call_in ys) (map answer_in xs) b m'
       all one b R a =
-          subst (λ (l : List Asked). Booked-all P one (map call_in ys) (map answer_in l) b m') (take_all i xs (omega arith))
-          (subst (λ (l : List book.Call). Booked-all P one l (map answer_in (take i xs)) b m') whole (s.book one b R a))
+          subst (λ (l : List Asked). BookedAll P one (map call_in ys) (map answer_in l) b m') (take_all i xs (omega arith))
+          (subst (λ (l : List book.Call). BookedAll P one l (map answer_in (take i xs)) b m') whole (s.book one b R a))

@@ -13,7 +13,7 @@ use Rattle.calls.specs.Asking.{call_in, answer_in, Spares}
 
 module _ (P : Pipeline) where
   -- these calls with these answers, as the book b has them, which agrees with the machine before them
-  pub record Booked-all (one : Values → Values) (cs : List book.Call) (rs : List (Answer book.Outcome)) (b : List Packet) (m' : Contents) : Type 0 where
+  pub record BookedAll (one : Values → Values) (cs : List book.Call) (rs : List (Answer book.Outcome)) (b : List Packet) (m' : Contents) : Type 0 where
     pub answers : rs ≡ answers P.shape one cs b
     pub agrees : Agrees P one (ended P.shape one cs b) m'
 
@@ -22,7 +22,7 @@ module _ (P : Pipeline) where
     -- each call is answered and changes the machine as the pipeline says
     pub ran : Ran P (map call_in asked) m (map answer_in asked') m'
     -- where the pipeline is right for the serial run, what every book says that agrees with the machine before
-    pub book : (one : Values → Values) (b : List Packet) → Right P one → Agrees P one b m → Booked-all one (map call_in asked) (map answer_in asked') b m'
+    pub book : (one : Values → Values) (b : List Packet) → Right P one → Agrees P one b m → BookedAll one (map call_in asked) (map answer_in asked') b m'
     -- and, from a machine at its start, the laws of the run
     pub served : (one : Values → Values) → Right P one → Fresh P m → Served P.shape one (map call_in asked) (map answer_in asked') m'
     -- each call still stands in its place, and a take's buffer is as long as it was

@@ -14,7 +14,7 @@ use Rattle.settings.specs.Settings.{has_room}
 use Rattle.atoms.specs.Rightness.{Right}
 use Rattle.plans.specs.Updates.{codelet_of}
 use Rattle.compiler.specs.Verdict.{untaken}
-use Rattle.compiler.specs.Settings.{FitsUpdate, Set-below}
+use Rattle.compiler.specs.Settings.{FitsUpdate, SetBelow}
 
 -- what is made of the lines is the state's codelet
 pub the_codelet : (r : Lines) (s : ℕ) (c : Codelet) → c.lines ≡ r.lines → c.inner ≡ inner_of r s → c.read ≡ read_of r s → c ≡ codelet_of r s
@@ -34,11 +34,11 @@ module _ (takes : Codelet → Decided → Source → Bool) where
   named_untaken r s n e = and_from _ _ n (not_from_false _ e)
 
   module _ (plus minus : ℕ → ℕ → ℕ) (ran : List ℕ → ℕ → Packet → ℕ) (r : Lines) where
-    pub set_none : (settings : List (List ℕ)) → Set-below plus minus takes ran r 0 settings
+    pub set_none : (settings : List (List ℕ)) → SetBelow plus minus takes ran r 0 settings
     set_none settings = record { taken = λ s h. absurd (omega arith); right = λ s h. absurd (omega arith) }
 
     -- a state that no statement names
-    pub set_unnamed : (n : ℕ) (settings more : List (List ℕ)) → more ≡ settings → is_named r n ≡ false → Set-below plus minus takes ran r n settings → Set-below plus minus takes ran r (n + 1) more
+    pub set_unnamed : (n : ℕ) (settings more : List (List ℕ)) → more ≡ settings → is_named r n ≡ false → SetBelow plus minus takes ran r n settings → SetBelow plus minus takes ran r (n + 1) more
     set_unnamed n settings more q e b =
         rw q (record {
           taken = λ s h. ⊎_elim (λ i. rw i (and_left (is_named r n) _ e)) (λ i. b.taken s (omega arith)) (cases_eq s n);
@@ -46,12 +46,12 @@ module _ (takes : Codelet → Decided → Source → Bool) where
         })
 
     -- a state whose update is taken
-    pub set_taken : (n : ℕ) (settings more : List (List ℕ)) (setting : List ℕ) → more ≡ set settings n setting → n < length settings → takes (codelet_of r n) undecided (update_of r n) ≡ true → FitsUpdate plus minus takes ran r n setting → Set-below plus minus takes ran r n settings → Set-below plus minus takes ran r (n + 1) more
+    pub set_taken : (n : ℕ) (settings more : List (List ℕ)) (setting : List ℕ) → more ≡ set settings n setting → n < length settings → takes (codelet_of r n) undecided (update_of r n) ≡ true → FitsUpdate plus minus takes ran r n setting → SetBelow plus minus takes ran r n settings → SetBelow plus minus takes ran r (n + 1) more
     set_taken n settings more setting q long e f b =
         rw q (record {
           taken = λ s h. ⊎_elim (λ i. rw i (and_right (is_named r n) _ (not_from_true _ e))) (λ i. b.taken s (omega arith)) (cases_eq s n);
           right = λ s h k. ⊎_elim (λ (i : s ≡ n). rw (i, get_or-set_same settings n setting [] long) f) (λ i. rw (get_or-set_other settings n s setting [] i) (b.right s (omega arith) k)) (cases_eq s n);
         })
 
-    pub set_all : (n : ℕ) (settings : List (List ℕ)) → 8 ≤ n → Set-below plus minus takes ran r n settings → Set-below plus minus takes ran r 8 settings
+    pub set_all : (n : ℕ) (settings : List (List ℕ)) → 8 ≤ n → SetBelow plus minus takes ran r n settings → SetBelow plus minus takes ran r 8 settings
     set_all n settings h b = record { taken = λ s k. b.taken s (omega arith); right = λ s k. b.right s (omega arith) }

@@ -35,7 +35,7 @@ use Rattle.compiler.specs.declared.fault.CompileFault.{CompileFault}
 use Rattle.compiler.specs.declared.fault.CompileFault.TheVariants.{Limits as InLimits, Atoms, Image, Codelets as InCodelets, Stages}
 use Rattle.compiler.specs.Faults.{compile_refusal}
 use Rattle.compiler.specs.Verdict.{outcome, nodes_of, needed, refused_limit, judged, admitted, StatementsJudged, TransactionJudged, ProgramJudged, Verdict}
-use Rattle.compiler.specs.Settings.{Set, Set-below}
+use Rattle.compiler.specs.Settings.{Set, SetBelow}
 use Rattle.compiler.specs.Planned.{TransactionPlanned, PlanOf, Planned}
 use Rattle.compiler.proofs.Judging.{shared, outside, deep, fits, by_lines}
 use Rattle.compiler.proofs.Staging.{needed_same, stages_same}
@@ -60,11 +60,11 @@ module _ (plus minus : ℕ → ℕ → ℕ) (takes : Codelet → Decided → Sou
   exit_settings k x a y (Update s) e q m =
       refused k.lines x a (Atoms (Update s)) (e ∙ ap Err q) (outside takes k.lines limits.stages limits.lines limits.atoms k.alone s m.0 m.1 m.2)
 
-  pub exit_stages : (k : Codelets) → IsTableOf (statements_of t) k.lines → (settings : List (List ℕ)) → Set-below plus minus takes ran k.lines 8 settings → (a : Result Plan CompileFault) (y : CompileFault) (f : StageFault) → a ≡ Err y → y ≡ Stages f → TooDeep k.lines limits f → Told a
+  pub exit_stages : (k : Codelets) → IsTableOf (statements_of t) k.lines → (settings : List (List ℕ)) → SetBelow plus minus takes ran k.lines 8 settings → (a : Result Plan CompileFault) (y : CompileFault) (f : StageFault) → a ≡ Err y → y ≡ Stages f → TooDeep k.lines limits f → Told a
   exit_stages k x settings b a y f e q m =
       refused k.lines x a (Stages f) (e ∙ ap Err q) (deep takes k.lines limits.stages limits.lines limits.atoms k.alone b.taken f.needed (m.needed ∙ needed_same k.lines m.sorts m.rows m.placed limits.lines limits.atoms) m.more)
 
-  pub planned : (k : Codelets) → Found t k.lines → (plan : Plan) → plan.transaction ≡ t → plan.placement.codelets ≡ k → Set-below plus minus takes ran k.lines 8 plan.settings → WellPlaced k.lines limits plan.placement → Told (Ok plan)
+  pub planned : (k : Codelets) → Found t k.lines → (plan : Plan) → plan.transaction ≡ t → plan.placement.codelets ≡ k → SetBelow plus minus takes ran k.lines 8 plan.settings → WellPlaced k.lines limits plan.placement → Told (Ok plan)
   planned k found plan e q b w = record { verdict = by_lines takes (statements_of t) limits.stages limits.lines limits.atoms _ k.lines (record { exact = found.exact; blank = found.blank }) judgement; plan = record { transaction = e; stages = stages; sound = sound } }
     where
       same : lines_in plan ≡ k.lines

@@ -30,11 +30,11 @@ module _ (plus minus : ℕ → ℕ → ℕ) (takes : Codelet → Decided → Sou
   Fitted s (Some setting) = (takes (codelet_of r s) undecided (update_of r s) ≡ true) × FitsUpdate s setting
 
   -- the states below n are taken, and their settings are right
-  pub record Set-below (n : ℕ) (settings : List (List ℕ)) : Type 0 where
+  pub record SetBelow (n : ℕ) (settings : List (List ℕ)) : Type 0 where
     pub taken : (s : ℕ) → s < n → untaken takes r s ≡ false
     pub right : (s : ℕ) → s < n → is_named r s ≡ true → FitsUpdate s (slice_index_or settings s [])
 
   abbrev pub Set : Result (List (List ℕ)) AtomFault → Type 0
-  Set (Ok settings) = Set-below 8 settings
+  Set (Ok settings) = SetBelow 8 settings
   Set (Err (Setting n)) = ⊥
   Set (Err (Update s)) = (s < 8) × (untaken takes r s ≡ true) × ((t : ℕ) → t < s → untaken takes r t ≡ false)

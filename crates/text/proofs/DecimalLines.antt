@@ -36,26 +36,26 @@ value_after_ge n [] = omega arith
 value_after_ge n (c ∷ ds) = omega (arith, value_after_ge (n * 10 + digit_value c) ds)
 
 -- the digits past the first
-read-digits :
+read_digits :
     {items bs : List ℕ} {d : Decoded ℕ} (n : ℕ) (ds : List ℕ)
     → AllDigits 10 ds
     → digits_value_after 10 n ds < 2 ^ 32
     → Gives decimal_step (Some (digits_value_after 10 n ds)) items bs d
     → Gives decimal_step (Some n) items (ds ++ bs) d
-read-digits n [] digits small h = h
-read-digits n (c ∷ ds) digits small h =
+read_digits n [] digits small h = h
+read_digits n (c ∷ ds) digits small h =
     let word : n * 10 + digit_value c < 2 ^ 32 = omega (arith, value_after_ge (n * 10 + digit_value c) ds) in
-    onward c _ (extends c n (digit_value c) (digit_of_lem 10 c (digit_value c) refl digits.0) word) (read-digits (n * 10 + digit_value c) ds digits.1 small h)
+    onward c _ (extends c n (digit_value c) (digit_of_lem 10 c (digit_value c) refl digits.0) word) (read_digits (n * 10 + digit_value c) ds digits.1 small h)
 
-read-numeral :
+read_numeral :
     {items bs : List ℕ} {d : Decoded ℕ} (ds : List ℕ)
     → IsNumeral 10 ds
     → digits_value 10 ds < 2 ^ 32
     → Gives decimal_step (Some (digits_value 10 ds)) items bs d
     → Gives decimal_step None items (ds ++ bs) d
-read-numeral [] numeral small h = absurd (omega (arith, numeral.0))
-read-numeral (c ∷ ds) numeral small h =
-    onward c _ (opens c (digit_value c) (digit_of_lem 10 c (digit_value c) refl numeral.1.0)) (read-digits (digit_value c) ds numeral.1.1 (rw zero-add at small) (rw zero-add at h))
+read_numeral [] numeral small h = absurd (omega (arith, numeral.0))
+read_numeral (c ∷ ds) numeral small h =
+    onward c _ (opens c (digit_value c) (digit_of_lem 10 c (digit_value c) refl numeral.1.0)) (read_digits (digit_value c) ds numeral.1.1 (rw zero-add at small) (rw zero-add at h))
 
 -- the blanks behind a number
 past_number : {items bs : List ℕ} {d : Decoded ℕ} (n : ℕ) (gap : List ℕ) → blanks gap ≡ true → 0 < length gap → Gives decimal_step None (items ++ n ∷ []) bs d → Gives decimal_step (Some n) items (gap ++ bs) d
@@ -74,12 +74,12 @@ module _ (gap behind : List ℕ) (blank-gap : blanks gap ≡ true) (some-gap : 0
       → Gives decimal_step (Some n) items (flat_map (λ next. gap ++ next) numerals ++ (behind ++ 32 ∷ [])) (decoded (items ++ n ∷ map (digits_value 10) numerals))
   read_more items n [] each = last_number n behind blank-behind
   read_more items n (ds ∷ numerals) each =
-      let more = read-numeral ds each.0.0 each.0.1 (read_more (items ++ n ∷ []) (digits_value 10 ds) numerals each.1) in
+      let more = read_numeral ds each.0.0 each.0.1 (read_more (items ++ n ∷ []) (digits_value 10 ds) numerals each.1) in
       regrouped (simp append_assoc) (ap decoded (append_assoc items (n ∷ []) (map (digits_value 10) (ds ∷ numerals)))) (past_number n gap blank-gap some-gap more)
 
   read_numerals : (numerals : List (List ℕ)) → All (λ ds. IsNumeral 10 ds × (digits_value 10 ds < 2 ^ 32)) numerals → Gives decimal_step None [] (spaced gap numerals ++ (behind ++ 32 ∷ [])) (decoded (map (digits_value 10) numerals))
   read_numerals [] each = to_end skips behind blank-behind
-  read_numerals (ds ∷ numerals) each = regrouped (simp append_assoc) refl (read-numeral ds each.0.0 each.0.1 (read_more [] (digits_value 10 ds) numerals each.1))
+  read_numerals (ds ∷ numerals) each = regrouped (simp append_assoc) refl (read_numeral ds each.0.0 each.0.1 (read_more [] (digits_value 10 ds) numerals each.1))
 
 pub numerals_read : NumeralsRead
 numerals_read before gap behind numerals blank-before blank-gap some-gap blank-behind each =
