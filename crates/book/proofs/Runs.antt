@@ -63,7 +63,7 @@ module _ (shape : Shape) (one : Values → Values) where
         subst (λ (l : List Exchange). Tells l s w n) (append_assoc run (x ∷ []) before ∙ ap {B = List Exchange} (λ (z : Exchange). run ++ z ∷ before) first) (told cs (run ++ x ∷ []) b' (kept_more shape one run b c (answer shape one c b) (decided shape one c b) k) before later s w n rest)
 
     -- a run whose answers are the book's, and a machine that holds the packets where the book has them
-    served_book : (cs : List Call) (m : Contents) → ((q : ℕ) → q ≤ shape.depth → packet_at m q ≡ standing q (ended shape one cs [])) → Served shape one cs (answers shape one cs []) m
+    served_book : {Row : Type 0} (cs : List Call) (m : Contents Row) → ((q : ℕ) → q ≤ shape.depth → packet_at m q ≡ standing q (ended shape one cs [])) → Served shape one cs (answers shape one cs []) m
     served_book cs m at =
         record {
           book = refl;
@@ -91,12 +91,12 @@ module _ (shape : Shape) (one : Values → Values) where
             let h : get_or since n 0 ≤ shape.depth = omega (arith, r.0) in
             (h, at (get_or since n 0) h ∙ r.1 ∙ ap Some (omega arith))
 
-module _ (P : Pipeline) (one : Values → Values) (R : Right P one) where
+module _ {Row : Type 0} (P : Pipeline Row) (one : Values → Values) (R : Right P one) where
   pub each_call : EachCall P one
   each_call c b m m' w a t = let x = one_call P one R c w b m m' a t in record { answer = x.0; agrees = x.1 }
 
   -- a run whose answers are the book's, on a machine that agrees with the book after it
-  pub served : (cs : List Call) (rs : List (Answer Outcome)) (m : Contents) → rs ≡ answers P.shape one cs [] → Agrees P one (ended P.shape one cs []) m → Served P.shape one cs rs m
+  pub served : (cs : List Call) (rs : List (Answer Outcome)) (m : Contents Row) → rs ≡ answers P.shape one cs [] → Agrees P one (ended P.shape one cs []) m → Served P.shape one cs rs m
   served cs rs m e a = subst (λ (l : List (Answer Outcome)). Served P.shape one cs l m) (sym e) (served_book P.shape one R.within cs m a.places)
 
   -- one call more
@@ -108,7 +108,7 @@ module _ (P : Pipeline) (one : Values → Values) (R : Right P one) where
   ended_more [] c b = refl
   ended_more (x ∷ cs) c b = ended_more cs c (turned P.shape one x b)
 
-  pub call_more : (cs : List Call) (c : Call) (rs : List (Answer Outcome)) (m m' : Contents) → FeedsWords c → rs ≡ answers P.shape one cs [] → Agrees P one (ended P.shape one cs []) m → Stepped P (reply P c m) c m m' → (rs ++ reply P c m ∷ [] ≡ answers P.shape one (cs ++ c ∷ []) []) × Agrees P one (ended P.shape one (cs ++ c ∷ []) []) m'
+  pub call_more : (cs : List Call) (c : Call) (rs : List (Answer Outcome)) (m m' : Contents Row) → FeedsWords c → rs ≡ answers P.shape one cs [] → Agrees P one (ended P.shape one cs []) m → Stepped P (reply P c m) c m m' → (rs ++ reply P c m ∷ [] ≡ answers P.shape one (cs ++ c ∷ []) []) × Agrees P one (ended P.shape one (cs ++ c ∷ []) []) m'
   call_more cs c rs m m' w e a t =
       let x = one_call P one R c w (ended P.shape one cs []) m m' a t in (
         ap₂ {C = List (Answer Outcome)} (λ (l : List (Answer Outcome)) (r : Answer Outcome). l ++ r ∷ []) e x.0 ∙ sym (answers_more cs c []),

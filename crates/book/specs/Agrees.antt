@@ -25,26 +25,26 @@ Lined d u (inside fs q ∷ b) = (q < u) × Lined d q b
 Lined d u (taken fs q ∷ b) = (q ≡ d) × (u ≡ suc d) × Lined d u b
 
 -- there is room for every place
-pub record Room (P : Pipeline) (m : Contents) : Type 0 where
+pub record Room {Row : Type 0} (P : Pipeline Row) (m : Contents Row) : Type 0 where
   pub places : P.shape.depth < length m.places
   pub carried : P.shape.depth < length m.carried
   pub counts : P.shape.depth < length m.counts
 
 -- as it is at the start: empty places, no packet counted, zeroed words
-pub record Fresh (P : Pipeline) (m : Contents) : Type 0 where
+pub record Fresh {Row : Type 0} (P : Pipeline Row) (m : Contents Row) : Type 0 where
   pub room : Room P m
   pub places : (q : ℕ) → q ≤ P.shape.depth → packet_at m q ≡ None
   pub counts : (q : ℕ) → q ≤ P.shape.depth → count_at m q ≡ 0
   pub words : (s : ℕ) → s < P.shape.states → word_of m s ≡ 0
 
-module _ (P : Pipeline) (one : Values → Values) where
+module _ {Row : Type 0} (P : Pipeline Row) (one : Values → Values) where
   -- each packet that is not taken carries what its serial run, from the words that those before it leave, lets it carry at its place
-  abbrev pub Carried : Contents → List ℕ → List Packet → Type 0
+  abbrev pub Carried : Contents Row → List ℕ → List Packet → Type 0
   Carried m ws [] = Unit {0}
-  Carried m ws (inside fs q ∷ b) = Carries P (values fs ws) q (values_at m q) × Carried m (one (values fs ws)).words b
+  Carried m ws (inside fs q ∷ b) = Carries P (values fs ws) q (values_at P m q) × Carried m (one (values fs ws)).words b
   Carried m ws (taken fs q ∷ b) = Carried m (one (values fs ws)).words b
 
-  pub record Agrees (b : List Packet) (m : Contents) : Type 0 where
+  pub record Agrees (b : List Packet) (m : Contents Row) : Type 0 where
     pub room : Room P m
     pub lined : Lined P.shape.depth (suc P.shape.depth) b
     -- each packet has its fields, and they are words

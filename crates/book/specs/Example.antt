@@ -1,5 +1,5 @@
 -- A worked example: packets that sum up their fields 0 in a state, two of them in a pipeline of two stages. Assumes nothing.
-use Rattle.std.specs.Prelude.{ℕ, ◌+◌, ◌-◌, ◌%◌, ◌^◌, cond, List, [], ◌∷◌, ◌==◌, slice_index, slice_set}
+use Rattle.std.specs.Prelude.{ℕ, ◌+◌, ◌-◌, ◌%◌, ◌^◌, cond, List, [], ◌∷◌, ◌++◌, take, ◌==◌, slice_index, slice_set}
 use Rattle.transaction.specs.declared.statement.Operand.TheVariants.{Field, State}
 use Rattle.transaction.specs.declared.statement.Target.TheVariants.{Field as ToField, State as ToState}
 use Rattle.transaction.specs.declared.statement.Statement.TheVariants.{Copy, Add}
@@ -8,7 +8,6 @@ use Rattle.transaction.specs.WellFormed.{Program}
 use Rattle.meaning.specs.Serial.{Values}
 use Rattle.image.specs.Reading.{Answer}
 use Rattle.image.specs.Reading.Answer.{good, bad}
-use Rattle.resolving.specs.declared.packet.Packet.{Packet as Row}
 use Rattle.book.specs.Run.{one_alone}
 use Rattle.book.specs.Calls.{Call, Outcome}
 use Rattle.book.specs.Calls.Call.{Feed, Tick, Take, Peek}
@@ -34,19 +33,19 @@ summed v = one_alone wrap_sum wrap_difference summing v
 abbrev pub two_stages : Shape
 two_stages = record { depth = 2; width = 2; states = 1; stage = λ _. 1 }
 
--- a packet carries its fields, from stage 1 on the old word as line 0, and from stage 2 on its copy as line 1
-abbrev pub worked : ℕ → Row → List ℕ → Row
-worked k row ws =
-    record { fields = row.fields; lines = cond (k == 1) (slice_set row.lines 0 (slice_index ws 0)) (slice_set row.lines 1 (slice_index row.lines 0)) }
+-- a packet carries its fields and, from stage 1 on, the old word
+abbrev pub worked : ℕ → List ℕ → List ℕ → List ℕ
+worked k row ws = cond (k == 1) (slice_set row 2 (slice_index ws 0)) (slice_set row 1 (slice_index row 2))
 
-abbrev pub summing_pipeline : Pipeline
+abbrev pub summing_pipeline : Pipeline (List ℕ)
 summing_pipeline =
     record {
       shape = two_stages;
-      enter = λ fs. record { fields = fs; lines = 0 ∷ 0 ∷ [] };
+      blank = [];
+      enter = λ fs. fs ++ 0 ∷ [];
       work = worked;
-      run = λ s old row. wrap_sum old (slice_index row.fields 0);
-      leave = λ row. slice_index row.fields 0 ∷ slice_index row.lines 1 ∷ [];
+      run = λ s old row. wrap_sum old (slice_index row 0);
+      leave = λ row. take 2 row;
     }
 
 abbrev pub calls : List Call

@@ -83,7 +83,7 @@ pub record Waits (n : ℕ) (run : List Exchange) : Type 0 where
 
 -- the calls since a start, their answers, and what the machine holds after them
 module _ (shape : Shape) (one : Values → Values) where
-  pub record Served (cs : List Call) (rs : List (Answer Outcome)) (m : Contents) : Type 0 where
+  pub record Served {Row : Type 0} (cs : List Call) (rs : List (Answer Outcome)) (m : Contents Row) : Type 0 where
     -- each call is answered, or refused with number and place, as the book has it
     pub book : rs ≡ answers shape one cs []
     -- the n-th packet taken has the fields that the serial run gives the n-th packet fed

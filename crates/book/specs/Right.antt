@@ -2,7 +2,6 @@
 use Rattle.std.specs.Prelude.{◌≡◌, ℕ, suc, ◌<◌, ◌≤◌, List, length, slice_index}
 use Rattle.word.specs.Words.{Word}
 use Rattle.meaning.specs.Serial.{Values}
-use Rattle.resolving.specs.declared.packet.Packet.{Packet as Row}
 use Rattle.book.specs.Book.{Shape}
 use Rattle.book.specs.Pipeline.{Pipeline}
 
@@ -20,7 +19,7 @@ pub record Fits (shape : Shape) (v : Values) : Type 0 where
   pub fields : Words shape.width v.fields
   pub words : Words shape.states v.words
 
-module _ (P : Pipeline) where
+module _ {Row : Type 0} (P : Pipeline Row) where
   -- the words of stage k's states stand in ws as the serial run of the packet of v finds them
   abbrev pub Finds : Values → ℕ → List ℕ → Type 0
   Finds v k ws = (s : ℕ) → s < P.shape.states → P.shape.stage s ≡ k → slice_index ws s ≡ slice_index v.words s

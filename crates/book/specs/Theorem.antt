@@ -13,22 +13,22 @@ use Rattle.book.specs.Right.{Fits}
 use Rattle.book.specs.Agrees.{FeedsWords, Fresh, Agrees}
 use Rattle.book.specs.Laws.{Served}
 
-module _ (P : Pipeline) (one : Values → Values) where
+module _ {Row : Type 0} (P : Pipeline Row) (one : Values → Values) where
   -- one call, for every book that the machine agrees with before it
-  pub record Called (c : Call) (b : List Packet) (m m' : Contents) : Type 0 where
+  pub record Called (c : Call) (b : List Packet) (m m' : Contents Row) : Type 0 where
     pub answer : reply P c m ≡ answer P.shape one c b
     pub agrees : Agrees P one (turned P.shape one c b) m'
 
   abbrev pub EachCall : Type 0
-  EachCall = (c : Call) (b : List Packet) (m m' : Contents) → FeedsWords c → Agrees P one b m → Stepped P (reply P c m) c m m' → Called c b m m'
+  EachCall = (c : Call) (b : List Packet) (m m' : Contents Row) → FeedsWords c → Agrees P one b m → Stepped P (reply P c m) c m m' → Called c b m m'
 
   -- any list of calls on a machine at its start
-  pub record CalledAll (cs : List Call) (rs : List (Answer Outcome)) (m : Contents) : Type 0 where
+  pub record CalledAll (cs : List Call) (rs : List (Answer Outcome)) (m : Contents Row) : Type 0 where
     pub agrees : Agrees P one (ended P.shape one cs []) m
     pub served : Served P.shape one cs rs m
 
   abbrev pub EveryRun : Type 0
-  EveryRun = (cs : List Call) (rs : List (Answer Outcome)) (m m' : Contents) → All FeedsWords cs → Fresh P m → Ran P cs m rs m' → CalledAll cs rs m'
+  EveryRun = (cs : List Call) (rs : List (Answer Outcome)) (m m' : Contents Row) → All FeedsWords cs → Fresh P m → Ran P cs m rs m' → CalledAll cs rs m'
 
 -- of words it makes words
 abbrev pub WordsToWords : (ℕ → ℕ → ℕ) → Type 0

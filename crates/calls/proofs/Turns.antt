@@ -50,29 +50,29 @@ module _ (shape : Shape) (one : Values → Values) where
   ended_more [] c b = refl
   ended_more (x ∷ cs) c b = ended_more cs c (turned shape one x b)
 
-module _ (P : Pipeline) where
-  ran_more : (cs : List book.Call) (rs : List (Answer book.Outcome)) (c : book.Call) (m m' m'' : Contents) → Ran P cs m rs m' → Stepped P (reply P c m') c m' m'' → Ran P (cs ++ c ∷ []) m (rs ++ reply P c m' ∷ []) m''
+module _ {Row : Type 0} (P : Pipeline Row) where
+  ran_more : (cs : List book.Call) (rs : List (Answer book.Outcome)) (c : book.Call) (m m' m'' : Contents Row) → Ran P cs m rs m' → Stepped P (reply P c m') c m' m'' → Ran P (cs ++ c ∷ []) m (rs ++ reply P c m' ∷ []) m''
   ran_more cs rs c m m' m'' (Ran.none) t = Ran.next t Ran.none
   ran_more cs rs c m m' m'' (Ran.next {cs = ds} {m' = k} {rs = qs} s r) t = Ran.next s (ran_more ds qs c k m' m'' r t)
 
   -- the first i calls of ys are answered in xs, and the others not yet
-  pub record SoFar (ys xs : List Asked) (i : ℕ) (m m' : Contents) : Type 0 where
+  pub record SoFar (ys xs : List Asked) (i : ℕ) (m m' : Contents Row) : Type 0 where
     pub ran : Ran P (take i (map call_in ys)) m (map answer_in (take i xs)) m'
     pub book : (one : Values → Values) (b : List Packet) → Right P one → Agrees P one b m → BookedAll P one (take i (map call_in ys)) (map answer_in (take i xs)) b m'
     pub ahead : drop i xs ≡ drop i ys
     pub kept : map call_in (take i xs) ≡ take i (map call_in ys)
     pub spares : (k : ℕ) (d : Asked) → k < i → Spares (get_or xs k d).answer (get_or ys k d).call (get_or xs k d).call
 
-  pub so_far_none : (ys : List Asked) (m : Contents) → SoFar ys ys 0 m m
+  pub so_far_none : (ys : List Asked) (m : Contents Row) → SoFar ys ys 0 m m
   so_far_none ys m = record { ran = Ran.none; book = λ one b R a. record { answers = refl; agrees = a }; ahead = refl; kept = refl; spares = λ k d h. absurd (omega arith) }
 
   -- what a call answers and leaves, by the pipeline and for every book
-  pub record Turn (c : book.Call) (r : Answer book.Outcome) (m m' : Contents) : Type 0 where
+  pub record Turn (c : book.Call) (r : Answer book.Outcome) (m m' : Contents Row) : Type 0 where
     pub replies : r ≡ reply P c m
     pub step : Stepped P r c m m'
     pub book : (one : Values → Values) (b : List Packet) → Right P one → Agrees P one b m → (r ≡ answer P.shape one c b) × Agrees P one (turned P.shape one c b) m'
 
-  pub so_far_more : (ys xs : List Asked) (i : ℕ) (x y : Asked) (m m' m'' : Contents) → x ≡ get_or xs i x → i < length xs → length xs ≡ length ys → Turn (call_in x) (answer_in y) m' m'' → call_in y ≡ call_in x → Spares y.answer x.call y.call → SoFar ys xs i m m' → SoFar ys (set xs i y) (i + 1) m m''
+  pub so_far_more : (ys xs : List Asked) (i : ℕ) (x y : Asked) (m m' m'' : Contents Row) → x ≡ get_or xs i x → i < length xs → length xs ≡ length ys → Turn (call_in x) (answer_in y) m' m'' → call_in y ≡ call_in x → Spares y.answer x.call y.call → SoFar ys xs i m m' → SoFar ys (set xs i y) (i + 1) m m''
   so_far_more ys xs i x y m m' m'' ex h hl turn stays keeps s =
       record {
         ran = subst (λ (n : ℕ). Ran P (take n (map call_in ys)) m (map answer_in (take n (set xs i y))) m'') (sym next) (subst (λ (l : List book.Call). Ran P l m (map answer_in (take (suc i) (set xs i y))) m'') (sym calls) (subst (λ (l : List (Answer book.Outcome)). Ran P (take i (map call_in ys) ++ call_in x ∷ []) m l m'') (sym replies) (ran_more (take i (map call_in ys)) (map answer_in (take i xs)) (call_in x) m m' m'' s.ran (subst (λ (r : Answer book.Outcome). Stepped P r (call_in x) m' m'') turn.replies turn.step))));
@@ -118,7 +118,7 @@ module _ (P : Pipeline) where
       spare k d lt (inr ne) =
           subst (λ (q : Asked). Spares q.answer (get_or ys k d).call q.call) (sym (get_or-set_other xs i k y d ne)) (s.spares k d (omega arith))
 
-  pub so_far_all : (ys xs : List Asked) (i : ℕ) (m m' : Contents) → length ys ≤ i → length xs ≡ length ys → SoFar ys xs i m m' → Run P ys xs m m'
+  pub so_far_all : (ys xs : List Asked) (i : ℕ) (m m' : Contents Row) → length ys ≤ i → length xs ≡ length ys → SoFar ys xs i m m' → Run P ys xs m m'
   so_far_all ys xs i m m' h hl s =
       record {
         ran = subst (λ (l : List Asked). Ran P (map call_in ys) m (map answer_in l) m') (take_all i xs (omega arith)) (subst (λ (l : List book.Call). Ran P l m (map answer_in (take i xs)) m') whole s.ran);

@@ -11,14 +11,14 @@ use Rattle.book.specs.Laws.{Served}
 use Rattle.calls.specs.declared.call.Asked.{Asked}
 use Rattle.calls.specs.Asking.{call_in, answer_in, Spares}
 
-module _ (P : Pipeline) where
+module _ {Row : Type 0} (P : Pipeline Row) where
   -- these calls with these answers, as the book b has them, which agrees with the machine before them
-  pub record BookedAll (one : Values → Values) (cs : List book.Call) (rs : List (Answer book.Outcome)) (b : List Packet) (m' : Contents) : Type 0 where
+  pub record BookedAll (one : Values → Values) (cs : List book.Call) (rs : List (Answer book.Outcome)) (b : List Packet) (m' : Contents Row) : Type 0 where
     pub answers : rs ≡ answers P.shape one cs b
     pub agrees : Agrees P one (ended P.shape one cs b) m'
 
   -- the calls before and after they are answered, and what the machine holds before and after
-  pub record Run (asked asked' : List Asked) (m m' : Contents) : Type 0 where
+  pub record Run (asked asked' : List Asked) (m m' : Contents Row) : Type 0 where
     -- each call is answered and changes the machine as the pipeline says
     pub ran : Ran P (map call_in asked) m (map answer_in asked') m'
     -- where the pipeline is right for the serial run, what every book says that agrees with the machine before

@@ -17,8 +17,8 @@ use Rattle.machine.specs.Faults.{machine_refusal, answered}
 use Rattle.machine.specs.Held.{contents}
 use Rattle.machine.specs.Did.{Booked, Kept, Did}
 
-module _ (P : Pipeline) (one : Values → Values) (R : Right P one) {A : Type 0} where
-  pub booked : (c : Call) (r : Answer Outcome) (b : List Packet) (m : Contents) (m' : Machine A) → FeedsWords c → r ≡ reply P c m → Stepped P r c m (contents m') → Agrees P one b m → Booked P one c r b m'
+module _ (P : Pipeline Row) (one : Values → Values) (R : Right P one) {A : Type 0} where
+  pub booked : (c : Call) (r : Answer Outcome) (b : List Packet) (m : Contents Row) (m' : Machine A) → FeedsWords c → r ≡ reply P c m → Stepped P r c m (contents m') → Agrees P one b m → Booked P one c r b m'
   booked c r b m m' w e t a =
       let x = each_call P one R c b m (contents m') w a (subst (λ (q : Answer Outcome). Stepped P q c m (contents m')) e t) in
       record { answer = e ∙ x.answer; agrees = x.agrees }

@@ -1,28 +1,27 @@
 -- A tick under way: what stood at place q and above has moved on, and what stood below has not. Assumes nothing.
 use Rattle.std.proofs.Common.{◌≡◌, ℕ, suc, ◌<◌, ◌≤◌, Bool, cond, eqb, ◌⊎◌, List, length, get_or, set, is_some, Some, None, Option, unwrap_or, sym, refl, ap, ◌∙◌, subst, ap₂, inl, inr, arith, length-set, get_or-set_other, get_or-set_same}
 use Rattle.std.proofs.lemmas.Bool.{cases_eq, cases_lt, eq-eqb, ne_eqb}
-use Rattle.resolving.specs.declared.packet.Packet.{Packet as Row}
-use Rattle.book.specs.Pipeline.{Pipeline, Contents, blank, packet_at, values_at, count_at, word_of, SameSizes, Ticked}
+use Rattle.book.specs.Pipeline.{Pipeline, Contents, packet_at, values_at, count_at, word_of, SameSizes, Ticked}
 use Rattle.machine.specs.Moved.{Passed, Moved}
 
-same_sizes : (m m' m'' : Contents) → SameSizes m m' → SameSizes m' m'' → SameSizes m m''
+same_sizes : {Row : Type 0} (m m' m'' : Contents Row) → SameSizes m m' → SameSizes m' m'' → SameSizes m m''
 same_sizes m m' m'' a b = record { places = b.places ∙ a.places; carried = b.carried ∙ a.carried; counts = b.counts ∙ a.counts; words = b.words ∙ a.words }
 
-module _ (P : Pipeline) where
-  pub record Passing (q : ℕ) (m m' : Contents) : Type 0 where
+module _ {Row : Type 0} (P : Pipeline Row) where
+  pub record Passing (q : ℕ) (m m' : Contents Row) : Type 0 where
     pub moves : (r : ℕ) → q ≤ r → r < P.shape.depth → packet_at m' (suc r) ≡ packet_at m r
     pub waits : (r : ℕ) → r ≤ q → packet_at m' r ≡ packet_at m r
-    pub works : (r : ℕ) → q ≤ r → r < P.shape.depth → values_at m' (suc r) ≡ cond (is_some (packet_at m r)) (P.work (suc r) (values_at m r) m.words) (values_at m (suc r))
-    pub carried : (r : ℕ) → r ≤ q → values_at m' r ≡ values_at m r
-    pub runs : (s r : ℕ) → s < P.shape.states → q ≤ r → r < P.shape.depth → P.shape.stage s ≡ suc r → word_of m' s ≡ cond (is_some (packet_at m r)) (P.run s (word_of m s) (values_at m r)) (word_of m s)
+    pub works : (r : ℕ) → q ≤ r → r < P.shape.depth → values_at P m' (suc r) ≡ cond (is_some (packet_at m r)) (P.work (suc r) (values_at P m r) m.words) (values_at P m (suc r))
+    pub carried : (r : ℕ) → r ≤ q → values_at P m' r ≡ values_at P m r
+    pub runs : (s r : ℕ) → s < P.shape.states → q ≤ r → r < P.shape.depth → P.shape.stage s ≡ suc r → word_of m' s ≡ cond (is_some (packet_at m r)) (P.run s (word_of m s) (values_at P m r)) (word_of m s)
     pub rests : (s : ℕ) → (s < P.shape.states → (r : ℕ) → q ≤ r → r < P.shape.depth → P.shape.stage s ≡ suc r → ⊥) → word_of m' s ≡ word_of m s
     pub counts : (r : ℕ) → q ≤ r → r < P.shape.depth → count_at m' (suc r) ≡ unwrap_or (packet_at m r) (count_at m (suc r))
     pub counted : (r : ℕ) → r ≤ q → count_at m' r ≡ count_at m r
-    pub past : (r : ℕ) → P.shape.depth < r → (packet_at m' r ≡ packet_at m r) × (values_at m' r ≡ values_at m r) × (count_at m' r ≡ count_at m r)
+    pub past : (r : ℕ) → P.shape.depth < r → (packet_at m' r ≡ packet_at m r) × (values_at P m' r ≡ values_at P m r) × (count_at m' r ≡ count_at m r)
     pub sizes : SameSizes m m'
 
   -- before the first
-  pub passing_none : (q : ℕ) (m : Contents) → P.shape.depth ≤ q → Passing q m m
+  pub passing_none : (q : ℕ) (m : Contents Row) → P.shape.depth ≤ q → Passing q m m
   passing_none q m h =
       record {
         moves = λ r a b. absurd (omega arith);
@@ -37,7 +36,7 @@ module _ (P : Pipeline) where
         sizes = record { places = refl; carried = refl; counts = refl; words = refl };
       }
 
-  more : (q : ℕ) (m x y : Contents) → q < P.shape.depth → suc q < length x.places → Passing (suc q) m x → Moved P m.words q (suc q) x y → Passing q m y
+  more : (q : ℕ) (m x y : Contents Row) → q < P.shape.depth → suc q < length x.places → Passing (suc q) m x → Moved P m.words q (suc q) x y → Passing q m y
   more q m x y hq hl p h =
       record {
         moves = λ r a b. mv r a b (cases_eq r q);
@@ -63,20 +62,20 @@ module _ (P : Pipeline) where
           rw e (ap {B = Option ℕ} (λ (l : List (Option ℕ)). get_or l (suc q) None) h.places ∙ get_or-set_same x.places (suc q) (packet_at x q) None hl ∙ here)
       mv r a b (inr e) = place (suc r) (omega arith) ∙ p.moves r (omega arith) b
 
-      wk : (r : ℕ) → q ≤ r → r < P.shape.depth → (r ≡ q) ⊎ (r ≡ q → ⊥) → values_at y (suc r) ≡ cond (is_some (packet_at m r)) (P.work (suc r) (values_at m r) m.words) (values_at m (suc r))
+      wk : (r : ℕ) → q ≤ r → r < P.shape.depth → (r ≡ q) ⊎ (r ≡ q → ⊥) → values_at P y (suc r) ≡ cond (is_some (packet_at m r)) (P.work (suc r) (values_at P m r) m.words) (values_at P m (suc r))
       wk r a b (inl e) =
           rw e
           (h.works
-          ∙ ap {B = Row} (λ (o : Option ℕ). cond (is_some o) (P.work (suc q) (values_at x q) m.words) (values_at x (suc q))) here
+          ∙ ap {B = Row} (λ (o : Option ℕ). cond (is_some o) (P.work (suc q) (values_at P x q) m.words) (values_at P x (suc q))) here
           ∙ ap₂ {C = Row} (λ (u v : Row). cond (is_some (packet_at m q)) (P.work (suc q) u m.words) v) (p.carried q (omega arith)) (p.carried (suc q) (omega arith))
           )
       wk r a b (inr e) = h.carried (suc r) (omega arith) ∙ p.works r (omega arith) b
 
-      rn : (s r : ℕ) → s < P.shape.states → q ≤ r → r < P.shape.depth → P.shape.stage s ≡ suc r → (r ≡ q) ⊎ (r ≡ q → ⊥) → word_of y s ≡ cond (is_some (packet_at m r)) (P.run s (word_of m s) (values_at m r)) (word_of m s)
+      rn : (s r : ℕ) → s < P.shape.states → q ≤ r → r < P.shape.depth → P.shape.stage s ≡ suc r → (r ≡ q) ⊎ (r ≡ q → ⊥) → word_of y s ≡ cond (is_some (packet_at m r)) (P.run s (word_of m s) (values_at P m r)) (word_of m s)
       rn s r hs a b es (inl e) =
           rw e
           (h.runs s hs (omega arith)
-          ∙ ap {B = ℕ} (λ (o : Option ℕ). cond (is_some o) (P.run s (word_of m s) (values_at x q)) (word_of x s)) here
+          ∙ ap {B = ℕ} (λ (o : Option ℕ). cond (is_some o) (P.run s (word_of m s) (values_at P x q)) (word_of x s)) here
           ∙ ap₂ {C = ℕ} (λ (u : Row) (w : ℕ). cond (is_some (packet_at m q)) (P.run s (word_of m s) u) w) (p.carried q (omega arith)) (p.rests s (λ _ i c d f. absurd (omega arith)))
           )
       rn s r hs a b es (inr e) = h.rests s (λ _ f. absurd (omega arith)) ∙ p.runs s r hs (omega arith) b es
@@ -87,12 +86,12 @@ module _ (P : Pipeline) where
       cn r a b (inr e) = h.others (suc r) (omega arith) ∙ p.counts r (omega arith) b
 
   -- one place on; the code has k for the place behind q
-  pub passing_more : (q k n : ℕ) (m x y : Contents) → k ≡ suc q → n ≡ suc q → q < P.shape.depth → k < length x.places → Passing n m x → Moved P m.words q k x y → Passing q m y
+  pub passing_more : (q k n : ℕ) (m x y : Contents Row) → k ≡ suc q → n ≡ suc q → q < P.shape.depth → k < length x.places → Passing n m x → Moved P m.words q k x y → Passing q m y
   passing_more q k n m x y ek en hq hl p h =
       more q m x y hq (omega arith) (subst (λ (i : ℕ). Passing i m x) en p) (subst (λ (i : ℕ). Moved P m.words q i x y) ek h)
 
   -- after the last, with the entry emptied
-  pub passing_all : (q : ℕ) (m x y : Contents) → q ≡ 0 → 0 < length x.places → Passing q m x → y.places ≡ set x.places 0 None → y.carried ≡ x.carried → y.counts ≡ x.counts → y.words ≡ x.words → Ticked P m y
+  pub passing_all : (q : ℕ) (m x y : Contents Row) → q ≡ 0 → 0 < length x.places → Passing q m x → y.places ≡ set x.places 0 None → y.carried ≡ x.carried → y.counts ≡ x.counts → y.words ≡ x.words → Ticked P m y
   passing_all q m x y eq hl passing ep er ec ew =
       record {
         entry = ap {B = Option ℕ} (λ (l : List (Option ℕ)). get_or l 0 None) ep ∙ get_or-set_same x.places 0 None None hl;
@@ -113,8 +112,8 @@ module _ (P : Pipeline) where
       place : (r : ℕ) → (r ≡ 0 → ⊥) → packet_at y r ≡ packet_at x r
       place r ne = ap {B = Option ℕ} (λ (l : List (Option ℕ)). get_or l r None) ep ∙ get_or-set_other x.places 0 r None None ne
 
-      row : (r : ℕ) → values_at y r ≡ values_at x r
-      row r = ap {B = Row} (λ (l : List Row). get_or l r blank) er
+      row : (r : ℕ) → values_at P y r ≡ values_at P x r
+      row r = ap {B = Row} (λ (l : List Row). get_or l r P.blank) er
 
       count : (r : ℕ) → count_at y r ≡ count_at x r
       count r = ap {B = ℕ} (λ (l : List ℕ). get_or l r 0) ec
@@ -122,44 +121,44 @@ module _ (P : Pipeline) where
       word : (s : ℕ) → word_of y s ≡ word_of x s
       word s = ap {B = ℕ} (λ (l : List ℕ). get_or l s 0) ew
 
-module _ (P : Pipeline) (stood : List ℕ) where
+module _ {Row : Type 0} (P : Pipeline Row) (stood : List ℕ) where
   -- a packet moves on with its stage's work: x is m with the packet at both places
-  pub moved_some : (q k n : ℕ) (m x y : Contents) → packet_at m q ≡ Some n → k < length m.carried → k < length m.counts → x.places ≡ set m.places k (packet_at m q) → x.carried ≡ m.carried → x.counts ≡ m.counts → x.words ≡ m.words → length y.words ≡ length m.words → Passed P stood q k n x y → Moved P stood q k m y
+  pub moved_some : (q k n : ℕ) (m x y : Contents Row) → packet_at m q ≡ Some n → k < length m.carried → k < length m.counts → x.places ≡ set m.places k (packet_at m q) → x.carried ≡ m.carried → x.counts ≡ m.counts → x.words ≡ m.words → length y.words ≡ length m.words → Passed P stood q k n x y → Moved P stood q k m y
   moved_some q k n m x y e lr lc ep er ec ew lw h =
       record {
         places = h.places ∙ ep;
-        works = ap {B = Row} (λ (l : List Row). get_or l k blank) rows ∙ get_or-set_same m.carried k (P.work k (values_at m q) stood) blank lr ∙ ap {B = Row} (λ (o : Option ℕ). cond (is_some o) (P.work k (values_at m q) stood) (values_at m k)) (sym e);
-        carried = λ r ne. ap {B = Row} (λ (l : List Row). get_or l r blank) rows ∙ get_or-set_other m.carried k r (P.work k (values_at m q) stood) blank ne;
+        works = ap {B = Row} (λ (l : List Row). get_or l k P.blank) rows ∙ get_or-set_same m.carried k (P.work k (values_at P m q) stood) P.blank lr ∙ ap {B = Row} (λ (o : Option ℕ). cond (is_some o) (P.work k (values_at P m q) stood) (values_at P m k)) (sym e);
+        carried = λ r ne. ap {B = Row} (λ (l : List Row). get_or l r P.blank) rows ∙ get_or-set_other m.carried k r (P.work k (values_at P m q) stood) P.blank ne;
         counts = ap {B = ℕ} (λ (l : List ℕ). get_or l k 0) counts ∙ get_or-set_same m.counts k n 0 lc ∙ ap {B = ℕ} (λ (o : Option ℕ). unwrap_or o (count_at m k)) (sym e);
         others = λ r ne. ap {B = ℕ} (λ (l : List ℕ). get_or l r 0) counts ∙ get_or-set_other m.counts k r n 0 ne;
-        runs = λ s hs es. run s hs ∙ ap {B = ℕ} (λ (b : Bool). cond b (P.run s (get_or stood s 0) (values_at m q)) (word_of m s)) (eq-eqb (P.shape.stage s) k es) ∙ ap {B = ℕ} (λ (o : Option ℕ). cond (is_some o) (P.run s (get_or stood s 0) (values_at m q)) (word_of m s)) (sym e);
+        runs = λ s hs es. run s hs ∙ ap {B = ℕ} (λ (b : Bool). cond b (P.run s (get_or stood s 0) (values_at P m q)) (word_of m s)) (eq-eqb (P.shape.stage s) k es) ∙ ap {B = ℕ} (λ (o : Option ℕ). cond (is_some o) (P.run s (get_or stood s 0) (values_at P m q)) (word_of m s)) (sym e);
         rests = λ s f. rest s f (cases_lt s P.shape.states);
-        sizes = record { places = ap length (h.places ∙ ep) ∙ length-set m.places k (packet_at m q); carried = ap length rows ∙ length-set m.carried k (P.work k (values_at m q) stood); counts = ap length counts ∙ length-set m.counts k n; words = lw };
+        sizes = record { places = ap length (h.places ∙ ep) ∙ length-set m.places k (packet_at m q); carried = ap length rows ∙ length-set m.carried k (P.work k (values_at P m q) stood); counts = ap length counts ∙ length-set m.counts k n; words = lw };
       }
     where
-      rows : y.carried ≡ set m.carried k (P.work k (values_at m q) stood)
-      rows = h.carried ∙ ap {B = List Row} (λ (l : List Row). set l k (P.work k (get_or l q blank) stood)) er
+      rows : y.carried ≡ set m.carried k (P.work k (values_at P m q) stood)
+      rows = h.carried ∙ ap {B = List Row} (λ (l : List Row). set l k (P.work k (get_or l q P.blank) stood)) er
 
       counts : y.counts ≡ set m.counts k n
       counts = h.counts ∙ ap {B = List ℕ} (λ (l : List ℕ). set l k n) ec
 
-      run : (s : ℕ) → s < P.shape.states → word_of y s ≡ cond (eqb (P.shape.stage s) k) (P.run s (get_or stood s 0) (values_at m q)) (word_of m s)
-      run s hs = h.runs s hs ∙ ap₂ {C = ℕ} (λ (l : List Row) (v : List ℕ). cond (eqb (P.shape.stage s) k) (P.run s (get_or stood s 0) (get_or l q blank)) (get_or v s 0)) er ew
+      run : (s : ℕ) → s < P.shape.states → word_of y s ≡ cond (eqb (P.shape.stage s) k) (P.run s (get_or stood s 0) (values_at P m q)) (word_of m s)
+      run s hs = h.runs s hs ∙ ap₂ {C = ℕ} (λ (l : List Row) (v : List ℕ). cond (eqb (P.shape.stage s) k) (P.run s (get_or stood s 0) (get_or l q P.blank)) (get_or v s 0)) er ew
 
       rest : (s : ℕ) → (s < P.shape.states → P.shape.stage s ≡ k → ⊥) → (s < P.shape.states) ⊎ (P.shape.states ≤ s) → word_of y s ≡ word_of m s
-      rest s f (inl hs) = run s hs ∙ ap {B = ℕ} (λ (b : Bool). cond b (P.run s (get_or stood s 0) (values_at m q)) (word_of m s)) (ne_eqb (P.shape.stage s) k (f hs))
+      rest s f (inl hs) = run s hs ∙ ap {B = ℕ} (λ (b : Bool). cond b (P.run s (get_or stood s 0) (values_at P m q)) (word_of m s)) (ne_eqb (P.shape.stage s) k (f hs))
       rest s f (inr hs) = h.rests s hs ∙ ap {B = ℕ} (λ (l : List ℕ). get_or l s 0) ew
 
   -- where no packet stands, none moves
-  pub moved_none : (q k : ℕ) (m y : Contents) → packet_at m q ≡ None → y.places ≡ set m.places k (packet_at m q) → y.carried ≡ m.carried → y.counts ≡ m.counts → y.words ≡ m.words → Moved P stood q k m y
+  pub moved_none : (q k : ℕ) (m y : Contents Row) → packet_at m q ≡ None → y.places ≡ set m.places k (packet_at m q) → y.carried ≡ m.carried → y.counts ≡ m.counts → y.words ≡ m.words → Moved P stood q k m y
   moved_none q k m y e ep er ec ew =
       record {
         places = ep;
-        works = ap {B = Row} (λ (l : List Row). get_or l k blank) er ∙ ap {B = Row} (λ (o : Option ℕ). cond (is_some o) (P.work k (values_at m q) stood) (values_at m k)) (sym e);
-        carried = λ r ne. ap {B = Row} (λ (l : List Row). get_or l r blank) er;
+        works = ap {B = Row} (λ (l : List Row). get_or l k P.blank) er ∙ ap {B = Row} (λ (o : Option ℕ). cond (is_some o) (P.work k (values_at P m q) stood) (values_at P m k)) (sym e);
+        carried = λ r ne. ap {B = Row} (λ (l : List Row). get_or l r P.blank) er;
         counts = ap {B = ℕ} (λ (l : List ℕ). get_or l k 0) ec ∙ ap {B = ℕ} (λ (o : Option ℕ). unwrap_or o (count_at m k)) (sym e);
         others = λ r ne. ap {B = ℕ} (λ (l : List ℕ). get_or l r 0) ec;
-        runs = λ s hs es. ap {B = ℕ} (λ (l : List ℕ). get_or l s 0) ew ∙ ap {B = ℕ} (λ (o : Option ℕ). cond (is_some o) (P.run s (get_or stood s 0) (values_at m q)) (word_of m s)) (sym e);
+        runs = λ s hs es. ap {B = ℕ} (λ (l : List ℕ). get_or l s 0) ew ∙ ap {B = ℕ} (λ (o : Option ℕ). cond (is_some o) (P.run s (get_or stood s 0) (values_at P m q)) (word_of m s)) (sym e);
         rests = λ s f. ap {B = ℕ} (λ (l : List ℕ). get_or l s 0) ew;
         sizes = record { places = ap length ep ∙ length-set m.places k (packet_at m q); carried = ap length er; counts = ap length ec; words = ap length ew };
       }

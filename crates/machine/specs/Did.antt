@@ -15,7 +15,7 @@ use Rattle.machine.specs.declared.machine.Machine.{Machine}
 use Rattle.machine.specs.Held.{contents}
 
 -- one call, as every book has it that agrees with the machine before the call
-pub record Booked (P : Pipeline) (one : Values → Values) (c : Call) (r : Answer Outcome) (b : List Packet) {A : Type 0} (m' : Machine A) : Type 0 where
+pub record Booked (P : Pipeline Row) (one : Values → Values) (c : Call) (r : Answer Outcome) (b : List Packet) {A : Type 0} (m' : Machine A) : Type 0 where
   pub answer : r ≡ answer P.shape one c b
   pub agrees : Agrees P one (turned P.shape one c b) (contents m')
 

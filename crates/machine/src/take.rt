@@ -1,10 +1,10 @@
 // What leaves a machine.
 ghost use Rattle.std.specs.Prelude.{◌≡◌, length, is_some, Ok, Err};
-ghost use Rattle.plans.specs.Pipeline.{leaving_with};
+ghost use Rattle.plans.specs.Pipeline.{leaving_with, row_at};
 ghost use Rattle.book.specs.Calls.{taking};
 ghost use Rattle.book.specs.Calls.Call.{Take};
 ghost use Rattle.book.specs.Calls.Outcome.{packet};
-ghost use Rattle.book.specs.Pipeline.{packet_at, values_at};
+ghost use Rattle.book.specs.Pipeline.{packet_at};
 ghost use Rattle.machine.specs.Faults.{answered};
 ghost use Rattle.machine.specs.Held.{contents};
 ghost use Rattle.machine.specs.Did.{Did, Spared};
@@ -19,7 +19,7 @@ use word::{at, put};
 impl<A: Atom> Machine<A> {
     // The row of the packet that leaves into a buffer of this length.
     fn leaving(&self, fields: usize) -> Result<Packet, MachineFault>
-        ensures answer { answered (λ row. packet (leaving_with self.now.plan row)) result ≡ taking self.now.plan.transaction.fields fields self.now.plan.placement.stages.count (is_some (packet_at (contents self.now) self.now.plan.placement.stages.count)) (leaving_with self.now.plan (values_at (contents self.now) self.now.plan.placement.stages.count)) }
+        ensures answer { answered (λ row. packet (leaving_with self.now.plan row)) result ≡ taking self.now.plan.transaction.fields fields self.now.plan.placement.stages.count (is_some (packet_at (contents self.now) self.now.plan.placement.stages.count)) (leaving_with self.now.plan (row_at (contents self.now) self.now.plan.placement.stages.count)) }
         ensures long { elim result [ Ok row ↦ fields ≡ self.now.plan.transaction.fields | Err f ↦ Unit {0} ] }
     {
         if fields != self.plan.transaction.fields as usize {

@@ -9,7 +9,7 @@ use Rattle.codelets.specs.Codelets.{is_named, read_of}
 use Rattle.placement.specs.Placement.{stage_at}
 use Rattle.resolving.specs.declared.packet.Packet.{Packet as Row}
 use Rattle.book.specs.Book.{Shape}
-use Rattle.book.specs.Pipeline.{Pipeline}
+use Rattle.book.specs.Pipeline.{Pipeline, Contents}
 use Rattle.plans.specs.declared.plan.Plan.{Plan}
 
 abbrev pub lines_in : Plan → Lines
@@ -48,11 +48,19 @@ module _ (plus minus : ℕ → ℕ → ℕ) (plan : Plan) where
   abbrev pub stage_work : ℕ → Row → List ℕ → Row
   stage_work k row ws = record { fields = row.fields; lines = filled k row ws (range_with_len 0 208) row.lines }
 
+-- where there is no row, the blank one
+abbrev pub blank : Row
+blank = record { fields = []; lines = [] }
+
+abbrev pub row_at : Contents Row → ℕ → Row
+row_at m q = slice_index_or m.carried q blank
+
 -- `ran` is what a setting makes of the old word and of what a packet carries
-abbrev pub pipeline_of : (plus minus : ℕ → ℕ → ℕ) (ran : List ℕ → ℕ → Row → ℕ) → Plan → Pipeline
+abbrev pub pipeline_of : (plus minus : ℕ → ℕ → ℕ) (ran : List ℕ → ℕ → Row → ℕ) → Plan → Pipeline Row
 pipeline_of plus minus ran plan =
     record {
       shape = shape_of plan;
+      blank = blank;
       enter = entered;
       work = stage_work plus minus plan;
       run = λ s old row. ran (setting_of plan s) old row;

@@ -68,6 +68,6 @@ module _ (plus minus : ℕ → ℕ → ℕ) (ran : List ℕ → ℕ → Packet �
       }
 
   -- what is answered to calls
-  pub answers_same : (cs : List Call) (rs : List (Answer Outcome)) (m : Contents) → Served (shape_of plan) (one_alone plus minus (program_of plan.transaction)) cs rs m → rs ≡ answers (shape_in r p P Q) (one_alone plus minus p) cs []
+  pub answers_same : (cs : List Call) (rs : List (Answer Outcome)) (m : Contents Packet) → Served (shape_of plan) (one_alone plus minus (program_of plan.transaction)) cs rs m → rs ≡ answers (shape_in r p P Q) (one_alone plus minus p) cs []
   answers_same cs rs m served =
       served.book ∙ ap₂ {C = List (Answer Outcome)} (λ (shape : Shape) (q : Program). answers shape (one_alone plus minus q) cs []) shape_same program_same

@@ -28,12 +28,12 @@ module _ (plus minus : ℕ → ℕ → ℕ) (image : List ℕ) where
   -- of every run of such a plan that is served as the book says: its calls and their answers
   abbrev pub EveryServedRun : (List Call → List (Answer Outcome) → Type 0) → Type 0
   EveryServedRun holds =
-      EveryPlan (λ plan. (cs : List Call) (rs : List (Answer Outcome)) (m : Contents) → Served (shape_of plan) (one_alone plus minus (program_of plan.transaction)) cs rs m → holds cs rs)
+      EveryPlan (λ plan. (cs : List Call) (rs : List (Answer Outcome)) (m : Contents Packet) → Served (shape_of plan) (one_alone plus minus (program_of plan.transaction)) cs rs m → holds cs rs)
 
   -- these calls are answered so
   abbrev pub CallsAnswered : List Call → List (Answer Outcome) → Type 0
   CallsAnswered cs told =
-      EveryPlan (λ plan. (rs : List (Answer Outcome)) (m : Contents) → Served (shape_of plan) (one_alone plus minus (program_of plan.transaction)) cs rs m → rs ≡ told)
+      EveryPlan (λ plan. (rs : List (Answer Outcome)) (m : Contents Packet) → Served (shape_of plan) (one_alone plus minus (program_of plan.transaction)) cs rs m → rs ≡ told)
 
 -- every tenth packet taken has 1 in field 0, and all others have 0; the first is number 0
 abbrev pub TenthsMarked : List Call → List (Answer Outcome) → Type 0

@@ -11,7 +11,7 @@ use Rattle.machine.specs.Did.{Kept}
 use Rattle.machine.proofs.Calling.{did}
 use Rattle.machine.proofs.machine.Machine.peek.Goals as goal
 
-stays : (P : Pipeline) (s : ℕ) (r : Answer Outcome) (m : Contents) → Stepped P r (Peek s) m m
+stays : {Row : Type 0} (P : Pipeline Row) (s : ℕ) (r : Answer Outcome) (m : Contents Row) → Stepped P r (Peek s) m m
 stays P s (Answer.good o) m = refl
 stays P s (Answer.bad f) m = refl
 
