@@ -78,7 +78,7 @@ module _ (xs : List Statement) (m : MadeOf) (t : Told xs m) where
         reads_at = t.reads;
         writes_at = t.writes;
         room = laid_out.room;
-        reads_first = laid_out.reads-first;
+        reads_first = laid_out.reads_first;
         writes_last = laid_out.writes_last;
         plain = laid_out.plain;
         ordered = laid_out.ordered;

@@ -25,6 +25,6 @@ returns c =
       sampling_marks_every_tenth_packet = every_tenth;
       countdown_wraps = countdown_wrapped;
       countdown_clamps = countdown_clamped;
-      nothing_has_no_lines = λ r x. x.count;
+      nothing_has_no_lines = λ r x. x.exact.count;
       nothing_leaves_after_one_tick = nothing_taken;
     }
