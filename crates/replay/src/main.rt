@@ -160,7 +160,7 @@ impl Session {
         let rest = &line[from.min(line.len())..line.len()];
         let end = word_end(rest);
         let word = &rest[0..end];
-        let image = if word == b"-" { &word[0..0] } else { word };
+        let image = if word == b"-".as_slice() { &word[0..0] } else { word };
         let read = decode_hex(image, &mut self.image);
         if self.is_read(from, read)? {
             Ok(Some(from.saturating_add(end)))
@@ -174,7 +174,7 @@ impl Session {
         let end = word_end(line);
         let name = &line[0..end];
         let mut from = end;
-        if name == b"start" {
+        if name == b"start".as_slice() {
             match self.read_image(line, end.saturating_add(1))? {
                 Some(limits) => from = limits,
                 None => return Ok(()),
@@ -184,15 +184,15 @@ impl Session {
         if !self.is_read(from, read)? {
             return Ok(());
         }
-        if name == b"start" {
+        if name == b"start".as_slice() {
             self.start(machine)?;
-        } else if name == b"feed" {
+        } else if name == b"feed".as_slice() {
             self.feed(machine)?;
-        } else if name == b"tick" {
+        } else if name == b"tick".as_slice() {
             self.tick(machine)?;
-        } else if name == b"take" {
+        } else if name == b"take".as_slice() {
             self.take(machine)?;
-        } else if name == b"peek" {
+        } else if name == b"peek".as_slice() {
             self.peek(machine)?;
         } else {
             writeln!(&mut self.out, "malformed: no such call")?;
