@@ -10,7 +10,7 @@ use Rattle.transaction.specs.declared.statement.Statement.{Statement}
 use Rattle.transaction.specs.declared.statement.Statement.TheVariants.{Copy, Add, Sub, Less, Equal, Choose, If, Else, End}
 use Rattle.transaction.specs.declared.frame.Frame.{Frame}
 use Rattle.transaction.specs.WellFormed.{Program, has, has_target, has_all, within, nested, well_formed}
-use Rattle.meaning.specs.Serial.{Values, values, Context, context, operand_in, stored, live, assigned, made, step, run}
+use Rattle.meaning.specs.Serial.{Values, Context, context, operand_in, stored, live, assigned, made, step, run}
 use Rattle.book.specs.Book.{Shape}
 use Rattle.book.specs.Right.{AllWords, Words, Fits}
 use Rattle.book.specs.Theorem.{WordsToWords, KeepsWords}

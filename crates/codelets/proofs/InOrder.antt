@@ -1,5 +1,5 @@
 -- Where read lines and write lines stand: what the ghost fields of lines come to. Assumes nothing.
-use Rattle.std.proofs.Common.{◌≡◌, ℕ, zero, suc, ◌+◌, ◌-◌, ◌<◌, ◌≤◌, Bool, true, false, ◌⊎◌, List, [], ◌∷◌, map, length, get_or, take, drop, sym, refl, ap, ◌∙◌, subst, ap₂, inl, inr, ⊎_elim, zero-add, arith, length-take-le, get_or-drop}
+use Rattle.std.proofs.Common.{◌≡◌, ℕ, zero, suc, ◌+◌, ◌-◌, ◌<◌, ◌≤◌, Bool, true, false, ◌⊎◌, List, [], ◌∷◌, map, length, get_or, take, sym, refl, ap, ◌∙◌, ap₂, inl, inr, ⊎_elim, zero-add, arith, length-take-le, get_or-drop}
 use Rattle.std.proofs.lemmas.List.{get_or-take}
 use Rattle.std.proofs.lemmas.Bool.{both_ways, cases_lt}
 use Rattle.lines.specs.declared.line.Line.{Line}
@@ -7,7 +7,7 @@ use Rattle.lines.specs.declared.line.Line.TheVariants.{Read, Write}
 use Rattle.lines.specs.declared.line.Source.TheVariants.{Constant as Fixed}
 use Rattle.lines.specs.declared.lines.Lines.{Lines}
 use Rattle.lines.specs.Named.{states_from, amount}
-use Rattle.lines.specs.Build.{read_lines, write_line, write_lines, numbered}
+use Rattle.lines.specs.Build.{write_line, numbered}
 use Rattle.lines.specs.Layout.{reads_line, is_plain}
 use Rattle.lines.specs.Exact.{first_write}
 use Rattle.line_graph.specs.Edges.{line_at, read_by}

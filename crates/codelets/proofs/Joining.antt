@@ -1,16 +1,16 @@
 -- A state's read line and write line are in its codelet, and no other read or write line is. Assumes nothing.
-use Rattle.std.proofs.Common.{◌≡◌, ℕ, ◌<◌, ◌≤◌, Bool, true, false, ◌||◌, eqb, ◌⊎◌, get_or, sym, refl, ap, ◌∙◌, subst, ap₂, inl, inr, ⊎_elim, arith}
+use Rattle.std.proofs.Common.{◌≡◌, ℕ, ◌<◌, ◌≤◌, true, get_or, sym, refl, ap, ◌∙◌, subst, ap₂, ⊎_elim, arith}
 use Rattle.std.proofs.lemmas.Bool.{both_ways, cases_lt, or_left, or_right, eq-eqb}
-use Rattle.graph.specs.Paths.{Path, here, step}
+use Rattle.graph.specs.Paths.{here}
 use Rattle.graph.proofs.Paths.{path_edge}
 use Rattle.lines.specs.declared.line.Line.{Line}
-use Rattle.lines.specs.declared.line.Line.TheVariants.{Read, Copy, Add, Sub, Less, Equal, Choose, Write}
+use Rattle.lines.specs.declared.line.Line.TheVariants.{Read, Write}
 use Rattle.lines.specs.declared.line.Source.TheVariants.{Constant as Fixed}
 use Rattle.lines.specs.declared.lines.Lines.{Lines}
 use Rattle.lines.specs.Layout.{is_plain}
 use Rattle.lines.specs.Exact.{first_write}
 use Rattle.line_graph.specs.Edges.{line_at, read_by, pairs, edge}
-use Rattle.codelets.specs.Codelets.{is_named, read_of, write_of, InCodelet, Joined, StatesJoined}
+use Rattle.codelets.specs.Codelets.{is_named, read_of, write_of, Joined, StatesJoined}
 use Rattle.codelets.proofs.InOrder.{read_below, write_below, read_line, write_line_lem, unwritten, written}
 
 module _ (r : Lines) where

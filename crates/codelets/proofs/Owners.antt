@@ -1,11 +1,10 @@
 -- From what lines reach to their owners. Assumes nothing.
-use Rattle.std.proofs.Common.{◌≡◌, ℕ, zero, suc, ◌+◌, ◌<◌, ◌≤◌, Bool, true, false, cond, not, ◌&&◌, ◌||◌, eqb, ltb, ◌≢◌, ◌⊎◌, List, length, get_or, Some, None, Decides, Option, sym, refl, ap, ◌∙◌, subst, ap₂, inl, inr, ⊎_elim, arith, below_more}
-use Rattle.std.proofs.lemmas.Bool.{both_ways, cases_Bool, cases_eq, cases_lt, and_from, and_right, and_parts, eq-eqb, ne_eqb, lt-ltb, le-ltb, not_from_false, cond-true, cond-false}
+use Rattle.std.proofs.Common.{◌≡◌, ℕ, ◌+◌, ◌<◌, ◌≤◌, Bool, true, false, cond, not, ◌&&◌, eqb, ltb, List, length, get_or, Some, None, Option, sym, refl, ap, ◌∙◌, subst, ⊎_elim, arith, below_more}
+use Rattle.std.proofs.lemmas.Bool.{both_ways, cases_Bool, cases_eq, cases_lt, and_from, and_right, and_parts, eq-eqb, ne_eqb, lt-ltb, le-ltb, cond-true, cond-false}
 use Rattle.std.proofs.lemmas.List.{get_or_past}
 use Rattle.graph.specs.Rounds.{some_below}
-use Rattle.graph.proofs.Rounds.{some_decides}
 use Rattle.lines.specs.declared.lines.Lines.{Lines}
-use Rattle.codelets.specs.Codelets.{is_named, write_of, meets, in_codelet, crowds, crowded, Shares, is_owner, Owned, Alone, Coded, Smallest}
+use Rattle.codelets.specs.Codelets.{is_named, write_of, meets, in_codelet, crowds, crowded, is_owner, Owned, Alone, Coded, Smallest}
 use Rattle.codelets.proofs.Turns.{some_same, some_none}
 use Rattle.codelets.proofs.Paths.{codelet_decides, crowded_decides, same_codelet, named_below, in_below}
 

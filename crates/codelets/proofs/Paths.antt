@@ -1,5 +1,5 @@
 -- What is computed of codelets is exactly what paths say. Assumes nothing.
-use Rattle.std.proofs.Common.{◌≡◌, ℕ, ◌<◌, ◌≤◌, Bool, true, false, cond, not, ◌&&◌, ◌||◌, eqb, ◌≢◌, ◌⊎◌, length, get_or, Decides, sym, refl, ap, ◌∙◌, subst, ap₂, inl, inr, ⊎_elim, arith}
+use Rattle.std.proofs.Common.{◌≡◌, ℕ, ◌<◌, true, false, not, eqb, Decides, ⊎_elim, arith}
 use Rattle.std.proofs.lemmas.Bool.{both_ways, cases_lt, and_from, and_parts, not-true, not_from_false, ne_eqb, eqb-false}
 use Rattle.std.proofs.lemmas.List.{get_or_past}
 use Rattle.graph.specs.Paths.{Path}

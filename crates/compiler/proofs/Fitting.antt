@@ -1,5 +1,5 @@
 -- An atom fitted to a state's update. Assumes nothing.
-use Rattle.std.proofs.Common.{◌≡◌, ℕ, ◌+◌, ◌<◌, ◌≤◌, Bool, true, false, not, ◌&&◌, List, [], length, get_or, set, sym, refl, ap, ◌∙◌, subst, ⊎_elim, arith, get_or-set_other, get_or-set_same}
+use Rattle.std.proofs.Common.{◌≡◌, ℕ, ◌+◌, ◌<◌, ◌≤◌, Bool, true, false, List, [], length, set, sym, ◌∙◌, ⊎_elim, arith, get_or-set_other, get_or-set_same}
 use Rattle.std.proofs.lemmas.Bool.{and_from, and_left, and_right, lt-ltb, le-leb, cases_eq, not_from_false, not_from_true, both_ways}
 use Rattle.lines.specs.declared.line.Source.{Source}
 use Rattle.lines.specs.declared.lines.Lines.{Lines}
@@ -11,7 +11,6 @@ use Rattle.resolving.specs.Sameness.{undecided}
 use Rattle.updates.specs.Inner.{inner_of, update_of}
 use Rattle.updates.proofs.Same.{same_codelets}
 use Rattle.settings.specs.Settings.{has_room}
-use Rattle.atoms.specs.Rightness.{Right}
 use Rattle.plans.specs.Updates.{codelet_of}
 use Rattle.compiler.specs.Verdict.{untaken}
 use Rattle.compiler.specs.Settings.{FitsUpdate, SetBelow}

@@ -1,6 +1,5 @@
 -- Stages depend on nodes and on the rows of nodes, and on nothing else. Assumes nothing.
-use Rattle.std.proofs.Common.{◌≡◌, ℕ, zero, suc, ◌+◌, ◌/◌, ◌<◌, ◌≤◌, max, Bool, true, false, cond, ◌&&◌, eqb, ltb, ◌⊎◌, List, map, get_or, is_some, Some, None, Option, sym, refl, ap, ◌∙◌, subst, ap₂, inl, inr, ⊎_elim, arith}
-use Rattle.std.specs.List.{range_with_len}
+use Rattle.std.proofs.Common.{◌≡◌, ℕ, zero, suc, ◌+◌, ◌/◌, ◌<◌, ◌≤◌, max, Bool, true, false, cond, ◌&&◌, eqb, ltb, ◌⊎◌, List, get_or, is_some, Some, None, Option, sym, refl, ap, ◌∙◌, ap₂, inl, inr, ⊎_elim, arith}
 use Rattle.std.proofs.lemmas.Bool.{cases_Bool, false≢true}
 use Rattle.std.proofs.lemmas.List.FromFn.{get_or-map-range_with_len}
 use Rattle.lines.specs.declared.lines.Lines.{Lines}
@@ -8,10 +7,10 @@ use Rattle.stages.specs.declared.node.Node.{Node}
 use Rattle.stages.specs.declared.node.Nodes.{Nodes}
 use Rattle.stages.specs.declared.node.Slot.{Slot}
 use Rattle.stages.specs.declared.node.Slot.TheVariants.{Stateless, Stateful}
-use Rattle.stages.specs.Filling.{tally, highest, ceiling, slot_of, takes, room, node_at, is_node, row_of, in_row, precedes, width, below, placed, stage_of, stage_count}
+use Rattle.stages.specs.Filling.{highest, ceiling, slot_of, takes, room, node_at, is_node, row_of, in_row, width, below, placed, stage_of, stage_count}
 use Rattle.stages.proofs.Counts.{tally_same}
 use Rattle.stages.proofs.Widths.{below_zero, below_suc, highest_zero, highest_suc}
-use Rattle.rows.specs.Sorts.{sort_of, is_node as stands}
+use Rattle.rows.specs.Sorts.{sort_of}
 use Rattle.rows.specs.Rows.{row_of as row_in}
 use Rattle.rows.specs.Placed.{Placed}
 use Rattle.rows.proofs.Sorting.{rows_stand}

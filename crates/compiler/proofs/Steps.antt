@@ -1,5 +1,5 @@
 -- From the compiler's steps to the verdict and the plan. Assumes nothing.
-use Rattle.std.proofs.Common.{◌≡◌, ℕ, ◌<◌, ◌≤◌, Bool, true, cond, ltb, List, Some, None, Ok, Err, Option, Result, sym, refl, ap, ◌∙◌, subst, ap₂, arith}
+use Rattle.std.proofs.Common.{◌≡◌, ℕ, ◌<◌, ◌≤◌, Bool, cond, ltb, List, None, Ok, Err, Option, Result, sym, refl, ap, ◌∙◌, subst, arith}
 use Rattle.transaction.specs.declared.transaction.Transaction.{Transaction}
 use Rattle.transaction.specs.Faults.{refusal}
 use Rattle.transaction.specs.WellFormed.{Program}
@@ -11,7 +11,7 @@ use Rattle.lines.specs.Unique.{IsTableOf}
 use Rattle.codelets.specs.declared.codelets.Codelets.{Codelets}
 use Rattle.codelets.specs.declared.fault.CodeletFault.{CodeletFault}
 use Rattle.codelets.specs.declared.fault.CodeletFault.TheVariants.{TwoStates}
-use Rattle.codelets.specs.Codelets.{is_named, Smallest}
+use Rattle.codelets.specs.Codelets.{Smallest}
 use Rattle.codelets.proofs.Paths.{named_below}
 use Rattle.std.proofs.lemmas.Bool.{le-ltb}
 use Rattle.rows.specs.Makers.{Reads}
@@ -19,7 +19,7 @@ use Rattle.stages.specs.declared.limits.Limits.{Limits}
 use Rattle.stages.specs.declared.fault.LimitFault.{LimitFault}
 use Rattle.stages.specs.declared.fault.StageFault.{StageFault}
 use Rattle.stages.specs.Limits.{first_out}
-use Rattle.stages.specs.Filling.{stage_of, stage_count}
+use Rattle.stages.specs.Filling.{stage_of}
 use Rattle.placement.specs.declared.placed.Placement.{Placement}
 use Rattle.placement.specs.Placement.{stage_at, WellPlaced, TooDeep}
 use Rattle.resolving.specs.declared.codelet.Codelet.{Codelet}
@@ -32,11 +32,11 @@ use Rattle.plans.proofs.Soundness.{Found, sound_from}
 use Rattle.compiler.specs.declared.fault.AtomFault.{AtomFault}
 use Rattle.compiler.specs.declared.fault.AtomFault.TheVariants.{Setting, Update}
 use Rattle.compiler.specs.declared.fault.CompileFault.{CompileFault}
-use Rattle.compiler.specs.declared.fault.CompileFault.TheVariants.{Limits as InLimits, Atoms, Image, Codelets as InCodelets, Stages}
+use Rattle.compiler.specs.declared.fault.CompileFault.TheVariants.{Atoms, Codelets as InCodelets, Stages}
 use Rattle.compiler.specs.Faults.{compile_refusal}
 use Rattle.compiler.specs.Verdict.{outcome, nodes_of, needed, refused_limit, judged, admitted, StatementsJudged, TransactionJudged, ProgramJudged, Verdict}
 use Rattle.compiler.specs.Settings.{Set, SetBelow}
-use Rattle.compiler.specs.Planned.{TransactionPlanned, PlanOf, Planned}
+use Rattle.compiler.specs.Planned.{TransactionPlanned, Planned}
 use Rattle.compiler.proofs.Judging.{shared, outside, deep, fits, by_lines}
 use Rattle.compiler.proofs.Staging.{needed_same, stages_same}
 

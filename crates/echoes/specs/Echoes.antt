@@ -1,5 +1,5 @@
 -- Echoes. Assumes nothing.
-use Rattle.std.specs.Prelude.{◌≡◌, ℕ, ◌<◌, Bool, true, false, not, ◌&&◌, ◌||◌, List, map, Decides, slice_index_or}
+use Rattle.std.specs.Prelude.{◌≡◌, ℕ, ◌<◌, Bool, true, false, not, ◌&&◌, ◌||◌, map, Decides, slice_index_or}
 use Rattle.std.specs.List.{range_with_len}
 use Rattle.graph.specs.Rounds.{some_below, led}
 use Rattle.lines.specs.declared.lines.Lines.{Lines}

@@ -1,5 +1,5 @@
 -- Which nodes of a graph a path leads to, computed by rounds. Assumes nothing.
-use Rattle.std.specs.Prelude.{◌≡◌, ℕ, zero, suc, Bool, true, false, ◌&&◌, ◌||◌, List, [], ◌∷◌, map, length, Decides, nat_eq, slice_index_or}
+use Rattle.std.specs.Prelude.{◌≡◌, ℕ, zero, suc, Bool, false, ◌&&◌, ◌||◌, List, [], map, length, Decides, nat_eq, slice_index_or}
 use Rattle.std.specs.List.{range_with_len}
 use Rattle.graph.specs.Paths.{Path, Led}
 

@@ -1,5 +1,5 @@
 -- A small graph, and what is reached in it, computed. Assumes nothing.
-use Rattle.std.specs.Prelude.{◌≡◌, ℕ, Bool, true, false, ◌&&◌, ◌||◌, List, [], ◌∷◌, ◌==◌}
+use Rattle.std.specs.Prelude.{◌≡◌, ℕ, Bool, true, false, ◌&&◌, ◌||◌, [], ◌∷◌, ◌==◌}
 use Rattle.graph.specs.Rounds.{reached}
 
 abbrev pub arc : ℕ → ℕ → ℕ → ℕ → Bool

@@ -1,15 +1,15 @@
 -- One statement more of the table, and a refusal in its place. Assumes nothing.
-use Rattle.std.proofs.Common.{◌≡◌, ℕ, suc, ◌+◌, ◌-◌, ◌<◌, ◌≤◌, Bool, true, false, cond, List, [], ◌∷◌, ◌++◌, length, take, set, sym, refl, ap, ◌∙◌, add-one, arith, take-suc-set}
-use Rattle.std.proofs.lemmas.Bool.{cond-true, cond-false}
+use Rattle.std.proofs.Common.{◌≡◌, ℕ, suc, ◌+◌, ◌-◌, ◌<◌, ◌≤◌, Bool, true, false, List, [], ◌∷◌, ◌++◌, length, take, set, sym, ◌∙◌, add-one, arith, take-suc-set}
+use Rattle.std.proofs.lemmas.Bool.{cond-true}
 use Rattle.transaction.specs.declared.refusal.Refusal.{Refusal}
 use Rattle.transaction.specs.declared.frame.Nest.{Nest}
 use Rattle.transaction.specs.declared.statement.Kind.{Kind}
 use Rattle.transaction.specs.declared.statement.Statement.{Statement}
 use Rattle.transaction.specs.Faults.{refusal}
 use Rattle.transaction.specs.Frames.{frames_of, elses}
-use Rattle.transaction.specs.WellFormed.{fits, after, opened}
+use Rattle.transaction.specs.WellFormed.{fits, after}
 use Rattle.transaction.proofs.OpenIfs.{closed_one}
-use Rattle.image.specs.Reading.{Read, got, refused, next, kind_at, fitting_at, rest_at, statements_at}
+use Rattle.image.specs.Reading.{got, refused, next, kind_at, fitting_at, rest_at, statements_at}
 
 module _ (count i f s : ℕ) (bs : List ℕ) (at : ℕ) (ifs : List Bool) (within : i < count) where
   step : (done : List Statement) → statements_at (count - i) f s bs ifs done at ≡ next (fitting_at ifs bs at) (λ k j. next (rest_at k f s bs j) (λ x end. statements_at (count - (i + 1)) f s bs (after k ifs) (done ++ (x ∷ [])) end))

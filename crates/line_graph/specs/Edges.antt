@@ -1,5 +1,5 @@
 -- The graph of a transaction's lines. Assumes nothing.
-use Rattle.std.specs.Prelude.{Bool, true, false, ◌||◌, ℕ, eqb, get_or}
+use Rattle.std.specs.Prelude.{Bool, false, ◌||◌, ℕ, eqb, get_or}
 use Rattle.lines.specs.declared.line.Line.{Line}
 use Rattle.lines.specs.declared.line.Line.TheVariants.{Read, Copy, Add, Sub, Less, Equal, Choose, Write}
 use Rattle.lines.specs.declared.lines.Lines.{Lines}

@@ -1,5 +1,5 @@
 -- Where the lines of a table stand: what its ghost fields come to. Assumes nothing.
-use Rattle.std.proofs.Common.{◌≡◌, ℕ, ◌+◌, ◌-◌, ◌<◌, true, false, List, [], ◌++◌, length, get_or, take, sym, ap, ◌∙◌, ap₂, add-zero, zero-add, arith, take-append-drop, length-take-le}
+use Rattle.std.proofs.Common.{◌≡◌, ℕ, ◌+◌, ◌<◌, true, false, List, [], ◌++◌, length, get_or, take, sym, ap, ◌∙◌, ap₂, add-zero, zero-add, arith, take-append-drop, length-take-le}
 use Rattle.std.proofs.lemmas.List.{get_or-take}
 use Rattle.lines.specs.declared.line.Line.{Line}
 use Rattle.lines.specs.declared.line.Line.TheVariants.{Read, Write}

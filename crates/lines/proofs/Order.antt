@@ -1,5 +1,5 @@
 -- The lines of the statements follow the read lines, and each reads only lower lines. Assumes nothing.
-use Rattle.std.proofs.Common.{◌≡◌, ℕ, zero, suc, ◌+◌, ◌-◌, ◌<◌, ◌≤◌, true, false, cond, List, [], ◌∷◌, ◌++◌, length, get_or, set, sym, refl, ap, ◌∙◌, append_assoc, add-zero, arith}
+use Rattle.std.proofs.Common.{◌≡◌, ℕ, zero, suc, ◌+◌, ◌<◌, ◌≤◌, true, false, cond, List, [], ◌∷◌, ◌++◌, length, get_or, set, sym, refl, ap, ◌∙◌, append_assoc, add-zero, arith}
 use Rattle.std.specs.List.{AllByRecursion as All}
 use Rattle.std.proofs.lemmas.List.{length_push}
 use Rattle.std.proofs.ByRecursion.{All-weaker, All-push}
@@ -16,7 +16,7 @@ use Rattle.lines.specs.declared.line.Source.{Source}
 use Rattle.lines.specs.declared.line.Source.TheVariants.{Constant as Fixed}
 use Rattle.lines.specs.declared.line.Line.{Line}
 use Rattle.lines.specs.declared.line.Line.TheVariants.{Copy as LCopy, Add as LAdd, Sub as LSub, Less as LLess, Equal as LEqual, Choose as LChoose}
-use Rattle.lines.specs.Build.{Latest, Draft, latest, source_of, renewed, last, choose_for, guarded, assigned, nesting, adds, adds_all}
+use Rattle.lines.specs.Build.{Latest, Draft, source_of, renewed, last, choose_for, guarded, assigned, nesting, adds, adds_all}
 use Rattle.lines.specs.Layout.{sources_of, is_plain, Ordered}
 use Rattle.lines.proofs.Sources.{Under, under_up, ordered_push}
 

@@ -1,14 +1,10 @@
 -- Machines at their start. Assumes nothing.
-use Rattle.std.proofs.Common.{◌≡◌, ℕ, ◌<◌, ◌≤◌, List, length, replicate, None, sym, ap, subst, arith}
+use Rattle.std.proofs.Common.{◌≡◌, ℕ, List, length, replicate, None, sym, subst, arith}
 use lib.ListN.{get_or-replicate}
 use Rattle.transaction.specs.WellFormed.{Program}
 use Rattle.transaction.specs.Programs.{program_of}
-use Rattle.image.specs.Reading.{Answer, good}
-use Rattle.lines.specs.declared.line.Source.{Source}
-use Rattle.meaning.specs.Serial.{Values}
 use Rattle.resolving.specs.declared.packet.Packet.{Packet as Row}
 use Rattle.stages.specs.declared.limits.Limits.{Limits}
-use Rattle.book.specs.Pipeline.{Contents}
 use Rattle.book.specs.Agrees.{Fresh}
 use Rattle.book.specs.Run.{one_alone}
 use Rattle.book.specs.Right.{Right}

@@ -5,7 +5,7 @@ use Rattle.image.specs.Reading.{Answer}
 use Rattle.image.specs.Reading.Answer.{bad}
 use Rattle.resolving.specs.declared.packet.Packet.{Packet as Row}
 use Rattle.book.specs.Calls.{Call, Outcome}
-use Rattle.book.specs.Book.{Packet, answer}
+use Rattle.book.specs.Book.{Packet}
 use Rattle.book.specs.Pipeline.{Pipeline, Contents, reply, Stepped}
 use Rattle.book.specs.Right.{Right}
 use Rattle.book.specs.Agrees.{Agrees, FeedsWords}

@@ -1,15 +1,14 @@
 -- Of each if exactly the part runs that its condition chose. Assumes nothing.
-use Rattle.std.proofs.Common.{◌≡◌, ℕ, Bool, true, false, cond, not, ◌&&◌, List, [], ◌∷◌, ◌++◌, Some, None, Option, sym, refl, ap, ◌∙◌, subst, arith}
-use Rattle.std.proofs.lemmas.Bool.{and_parts, cond-true, cond-false}
+use Rattle.std.proofs.Common.{◌≡◌, ℕ, Bool, true, false, cond, not, ◌&&◌, List, [], ◌∷◌, ◌++◌, Some, None, Option, sym, refl, ap, ◌∙◌, arith}
+use Rattle.std.proofs.lemmas.Bool.{and_parts}
 use Rattle.word.specs.Words.{truth}
-use Rattle.transaction.specs.declared.statement.Operand.{Operand}
 use Rattle.transaction.specs.declared.statement.Target.{Target}
 use Rattle.transaction.specs.declared.statement.Statement.{Statement}
 use Rattle.transaction.specs.declared.statement.Statement.TheVariants.{Copy, Add, Sub, Less, Equal, Choose, If, Else, End}
 use Rattle.transaction.specs.declared.frame.Frame.{Frame}
 use Rattle.transaction.specs.Statements.{kind_of}
-use Rattle.transaction.specs.Frames.{begun, turned, outer, elses}
-use Rattle.transaction.specs.WellFormed.{opened, awaits, fits, after, nested}
+use Rattle.transaction.specs.Frames.{elses}
+use Rattle.transaction.specs.WellFormed.{opened, fits, after, nested}
 use Rattle.meaning.specs.Serial.{Values, Context, context, operand_in, stored, taken, live, assigned, nest_after, made, step, run, alone}
 use Rattle.meaning.specs.Structure.{Whole, Structured}
 

@@ -1,18 +1,17 @@
 -- A run of statements, one turn of a loop after the other. Assumes nothing.
-use Rattle.std.proofs.Common.{◌≡◌, ℕ, ◌+◌, ◌<◌, ◌≤◌, Bool, true, false, cond, ◌&&◌, eqb, List, [], ◌∷◌, reverse, length, get_or, take, drop, None, sym, refl, ap, ◌∙◌, ap₂, arith}
+use Rattle.std.proofs.Common.{◌≡◌, ℕ, ◌+◌, ◌<◌, ◌≤◌, Bool, true, false, cond, ◌&&◌, eqb, List, [], reverse, length, get_or, take, drop, None, sym, refl, ap, ◌∙◌, ap₂, arith}
 use Rattle.std.proofs.lemmas.Bool.{and_parts}
 use Rattle.transaction.specs.Faults.{refusal}
 use Rattle.transaction.specs.declared.frame.Frame.{Frame}
-use Rattle.transaction.specs.declared.frame.Nest.{Nest}
 use Rattle.transaction.specs.declared.statement.Statement.{Statement}
-use Rattle.transaction.specs.Frames.{frames_of, elses}
+use Rattle.transaction.specs.Frames.{elses}
 use Rattle.transaction.specs.Statements.{kind_of}
 use Rattle.transaction.specs.WellFormed.{Program, fits, after, nested}
 use Rattle.image.specs.Reading.{good, bad}
 use Rattle.transaction.proofs.Fronts.{left_at, none_left}
 use Rattle.transaction.proofs.OpenIfs.{one_more}
 use Rattle.meaning.specs.Alone.{refusal_in, sized}
-use Rattle.meaning.specs.Serial.{Values, Context, context, taken, live, nest_after, step, run}
+use Rattle.meaning.specs.Serial.{Values, Context, context, taken, live, step, run}
 use Rattle.meaning.proofs.Branches.{after_elses}
 
 -- one open if more was asked

@@ -1,5 +1,5 @@
 -- The serial meaning: a packet alone, its statements in written order. Assumes nothing.
-use Rattle.std.specs.Prelude.{ℕ, Bool, true, false, cond, not, ◌&&◌, List, [], ◌∷◌, Some, None, Option, slice_index, slice_set}
+use Rattle.std.specs.Prelude.{ℕ, Bool, true, cond, not, ◌&&◌, List, [], ◌∷◌, Some, None, Option, slice_index, slice_set}
 use Rattle.word.specs.Words.{truth, less_than, equal_to, chosen}
 use Rattle.transaction.specs.declared.statement.Operand.{Operand}
 use Rattle.transaction.specs.declared.statement.Operand.TheVariants.{Field, State, Constant}

@@ -5,7 +5,7 @@ use Rattle.lines.specs.declared.lines.Lines.{Lines}
 use Rattle.stages.specs.declared.node.Node.{Node}
 use Rattle.stages.specs.declared.node.Stages.{Stages}
 use Rattle.stages.specs.WellStaged.{WellStaged}
-use Rattle.rows.specs.Sorts.{sort_of, is_node}
+use Rattle.rows.specs.Sorts.{is_node}
 use Rattle.rows.specs.Makers.{makes, Reads}
 use Rattle.rows.specs.Placed.{Placed}
 use Rattle.rows.proofs.Sorting.{sort_past, makers_stand}

@@ -1,6 +1,6 @@
 -- One empty stage for no lines. Assumes nothing.
-use Rattle.std.proofs.Common.{◌≡◌, ℕ, zero, suc, ◌+◌, ◌<◌, ◌≤◌, max, Bool, true, false, not, ◌&&◌, eqb, List, [], length, get_or, is_some, Some, None, Option, sym, refl, ap, ◌∙◌, subst, arith}
-use Rattle.std.proofs.lemmas.Bool.{and_left, and_right, both_ways, false≢true}
+use Rattle.std.proofs.Common.{◌≡◌, ℕ, zero, suc, ◌+◌, ◌≤◌, max, Bool, false, not, eqb, List, [], get_or, is_some, None, Option, sym, refl, ap, ◌∙◌, subst, arith}
+use Rattle.std.proofs.lemmas.Bool.{and_left, and_right, both_ways}
 use Rattle.transaction.specs.declared.transaction.Transaction.{Transaction}
 use Rattle.transaction.specs.declared.statement.Statement.{Statement}
 use Rattle.transaction.specs.WellFormed.{Program}
@@ -9,7 +9,7 @@ use Rattle.lines.specs.declared.lines.Lines.{Lines}
 use Rattle.lines.specs.Named.{named_of}
 use Rattle.lines.specs.Exact.{Exactly}
 use Rattle.codelets.specs.declared.codelets.Codelets.{Codelets}
-use Rattle.codelets.specs.Codelets.{is_named, write_of, meets, in_codelet, crowds, is_owner, Owned, Alone, Coded}
+use Rattle.codelets.specs.Codelets.{is_named, write_of, meets, crowds, is_owner, Owned, Alone, Coded}
 use Rattle.codelets.proofs.Owners.{coded}
 use Rattle.codelets.proofs.Turns.{some_none}
 use Rattle.stages.specs.declared.node.Node.{Node}
@@ -21,7 +21,6 @@ use Rattle.stages.proofs.Places.{well_staged}
 use Rattle.stages.proofs.Widths.{below_zero, below_suc, width_none, highest_within}
 use Rattle.rows.specs.Placed.{Placed}
 use Rattle.rows.proofs.Sorting.{sort_past, placed as tables_placed}
-use Rattle.placement.specs.declared.placed.Placement.{Placement}
 use Rattle.placement.specs.Placement.{WellPlaced}
 use Rattle.placement.proofs.Placing.{earlier}
 use Rattle.plans.specs.Idle.{idle_program, one, Bare}

@@ -160,7 +160,11 @@ impl Session {
         let rest = &line[from.min(line.len())..line.len()];
         let end = word_end(rest);
         let word = &rest[0..end];
-        let image = if word == b"-".as_slice() { &word[0..0] } else { word };
+        let image = if word == b"-".as_slice() {
+            &word[0..0]
+        } else {
+            word
+        };
         let read = decode_hex(image, &mut self.image);
         if self.is_read(from, read)? {
             Ok(Some(from.saturating_add(end)))

@@ -1,16 +1,15 @@
 -- Lines built by hand: what the ghost fields say, by tests that compute. Assumes nothing.
-use Rattle.std.proofs.Common.{◌≡◌, ℕ, zero, suc, ◌+◌, ◌-◌, ◌<◌, ◌≤◌, Bool, true, false, cond, ◌&&◌, ◌||◌, eqb, ltb, leb, ◌⊎◌, List, [], ◌∷◌, ◌++◌, map, length, get_or, take, drop, replicate, sym, refl, ap, ◌∙◌, subst, inl, inr, ⊎_elim, arith, lit≤, get_or-drop}
+use Rattle.std.proofs.Common.{◌≡◌, ℕ, zero, suc, ◌+◌, ◌-◌, ◌<◌, Bool, true, false, ◌&&◌, ltb, List, [], ◌∷◌, ◌++◌, length, get_or, drop, replicate, sym, refl, ap, ◌∙◌, subst, ⊎_elim, arith, lit≤, get_or-drop}
 use Rattle.std.proofs.lemmas.Bool.{both_ways, and_parts, or_cases, eqb-true, ltb-true}
 use Rattle.lines.specs.declared.line.Source.{Source}
 use Rattle.lines.specs.declared.line.Source.TheVariants.{Field, Line as Made, Constant as Fixed}
 use Rattle.lines.specs.declared.line.Line.{Line}
-use Rattle.lines.specs.declared.line.Line.TheVariants.{Read, Copy, Add, Sub, Less, Equal, Choose, Write}
+use Rattle.lines.specs.declared.line.Line.TheVariants.{Read}
 use Rattle.lines.specs.declared.lines.Lines.{Lines}
-use Rattle.lines.specs.Named.{any_of, amount}
+use Rattle.lines.specs.Named.{any_of}
 use Rattle.lines.specs.Layout.{sources_of, is_line, reads_line, is_plain, Ordered, ReadsBelow, Below, Plain}
-use Rattle.lines.proofs.Blank.{blank_past}
 use Rattle.rows.specs.Rows.{row_of}
-use Rattle.rows.specs.Samples.{sampling, chained, crossed, Sampled, Chained, Crossed, SamplesStand}
+use Rattle.rows.specs.Samples.{sampling, chained, crossed, SamplesStand}
 
 abbrev source_below : ℕ → Source → Bool
 source_below w (Field i) = true

@@ -1,8 +1,8 @@
 -- From a node to the makers of what it reads a rank falls: 209 times the lines that reach it, and then its place in its codelet. Assumes nothing.
-use Rattle.std.proofs.Common.{◌≡◌, ℕ, zero, suc, ◌+◌, ◌-◌, ◌*◌, ◌<◌, ◌≤◌, Bool, true, false, cond, not, ◌&&◌, ◌||◌, eqb, ltb, leb, ◌⊎◌, List, Decides, sym, refl, ap, ◌∙◌, subst, inl, inr, ⊎_elim, arith}
-use Rattle.std.proofs.lemmas.Bool.{both_ways, cases_Bool, cases_eq, cond-true, cond-false, and_parts, and_from, or_left, not-true, not_from_true, leb-true, le-leb}
-use Rattle.graph.specs.Paths.{Path, here, step}
-use Rattle.graph.specs.Rounds.{some_below, closure, reaches}
+use Rattle.std.proofs.Common.{◌≡◌, ℕ, zero, suc, ◌+◌, ◌-◌, ◌*◌, ◌<◌, ◌≤◌, Bool, true, false, cond, not, leb, Decides, refl, ap, ◌∙◌, subst, ⊎_elim, arith}
+use Rattle.std.proofs.lemmas.Bool.{both_ways, cases_Bool, cases_eq, cond-false, and_parts, or_left, not-true, leb-true, le-leb}
+use Rattle.graph.specs.Paths.{Path, here}
+use Rattle.graph.specs.Rounds.{closure, reaches}
 use Rattle.graph.proofs.Paths.{path_from, path_to, path_edge, path_then}
 use Rattle.graph.proofs.Rounds.{some_decides, closure_decides}
 use Rattle.lines.specs.declared.line.Line.{Line}
@@ -10,7 +10,7 @@ use Rattle.lines.specs.declared.line.Line.TheVariants.{Read, Copy, Add, Sub, Les
 use Rattle.lines.specs.declared.lines.Lines.{Lines}
 use Rattle.lines.specs.Layout.{reads_line}
 use Rattle.line_graph.specs.Edges.{line_at, read_by, edge}
-use Rattle.codelets.specs.Codelets.{is_named, read_of, write_of, InCodelet, in_codelet}
+use Rattle.codelets.specs.Codelets.{InCodelet, in_codelet}
 use Rattle.codelets.proofs.Paths.{codelet_decides}
 use Rattle.codelets.proofs.InOrder.{lower}
 use Rattle.codelets.proofs.Joining.{joined, read_of_lem}

@@ -1,8 +1,6 @@
 -- What stands at a number, and that what a node reads a node makes. Assumes nothing.
-use Rattle.std.proofs.Common.{◌≡◌, ℕ, ◌+◌, ◌<◌, ◌≤◌, Bool, true, false, cond, not, ◌&&◌, ◌||◌, ltb, ◌⊎◌, List, get_or, is_some, Some, None, Decides, Option, sym, refl, ap, ◌∙◌, subst, ap₂, inl, inr, ⊎_elim, arith}
+use Rattle.std.proofs.Common.{◌≡◌, ℕ, ◌+◌, ◌<◌, ◌≤◌, Bool, true, false, cond, not, ltb, ◌⊎◌, List, get_or, is_some, Some, None, Option, sym, refl, ap, ◌∙◌, subst, ap₂, inl, inr, ⊎_elim, arith}
 use Rattle.std.proofs.lemmas.Bool.{both_ways, cases_Bool, and_parts, and_from, not-true, not_from_false, lt-ltb, le-ltb, ltb-true}
-use Rattle.graph.specs.Paths.{Path}
-use Rattle.graph.specs.Rounds.{some_below}
 use Rattle.graph.proofs.Paths.{path_to, path_then}
 use Rattle.graph.proofs.Rounds.{some_decides}
 use Rattle.lines.specs.declared.line.Line.{Line}
@@ -10,18 +8,18 @@ use Rattle.lines.specs.declared.line.Line.TheVariants.{Read, Copy, Add, Sub, Les
 use Rattle.lines.specs.declared.lines.Lines.{Lines}
 use Rattle.lines.specs.Layout.{reads_line, is_plain}
 use Rattle.line_graph.specs.Edges.{line_at, read_by, edge}
-use Rattle.codelets.specs.Codelets.{is_named, read_of, write_of, InCodelet, in_codelet}
+use Rattle.codelets.specs.Codelets.{is_named, read_of, InCodelet, in_codelet}
 use Rattle.codelets.specs.Inner.{owned, inner}
 use Rattle.echoes.specs.Echoes.{echo, Echo as IsEcho, parts, serves}
-use Rattle.codelets.proofs.Paths.{codelet_decides, named_below, in_below}
+use Rattle.codelets.proofs.Paths.{codelet_decides, named_below}
 use Rattle.echoes.proofs.Least.{inner_below, echo_inner, echo_decides}
 use Rattle.codelets.proofs.InOrder.{lower, unread, read_line, unwritten}
 use Rattle.codelets.proofs.Joining.{joined, read_of_lem}
 use Rattle.stages.specs.declared.node.Node.{Node}
 use Rattle.stages.specs.declared.node.Node.TheVariants.{Line as Outside, Echo, Atom}
 use Rattle.rows.specs.Sorts.{is_read, owned_sort, sort_of, is_node, Sorted, SortsStand}
-use Rattle.rows.specs.Makers.{read_inside, atom_reads, reads_as, makes, Reads, line as by_line, echo as by_echo, atom as by_atom, Made, MakersStand}
-use Rattle.rows.specs.Rows.{row_of, Rule, Ranked, RowsStand}
+use Rattle.rows.specs.Makers.{read_inside, reads_as, makes, Reads, line as by_line, echo as by_echo, atom as by_atom, Made, MakersStand}
+use Rattle.rows.specs.Rows.{row_of, Ranked, RowsStand}
 use Rattle.rows.specs.Passes.{row_at}
 use Rattle.rows.specs.Placed.{Placed}
 use Rattle.rows.proofs.Highest.{highest_same}

@@ -1,7 +1,6 @@
 -- The highest number among the makers, found by what lines read. Assumes nothing.
-use Rattle.std.proofs.Common.{◌≡◌, ℕ, zero, suc, ◌+◌, ◌<◌, ◌≤◌, max, Bool, true, false, cond, not, ◌&&◌, ◌⊎◌, List, sym, refl, ap, ◌∙◌, subst, ap₂, inl, inr, ⊎_elim, le_trans, le_antisymm, arith}
+use Rattle.std.proofs.Common.{◌≡◌, ℕ, zero, suc, ◌<◌, max, Bool, false, cond, not, sym, refl, ap, ◌∙◌, ap₂, ⊎_elim, le_trans, le_antisymm, arith}
 use Rattle.std.proofs.lemmas.Bool.{cases_Bool, cond-true, cond-false, and_parts, and_from, not-true, not_from_false}
-use Rattle.graph.specs.Rounds.{some_below}
 use Rattle.graph.proofs.Rounds.{some_decides}
 use Rattle.lines.specs.declared.line.Line.{Line}
 use Rattle.lines.specs.declared.line.Line.TheVariants.{Read}
@@ -13,8 +12,8 @@ use Rattle.codelets.proofs.InOrder.{lower}
 use Rattle.rows.specs.Sorts.{is_read}
 use Rattle.rows.specs.Makers.{read_inside, atom_reads, reads_as, makes}
 use Rattle.rows.specs.Rows.{highest}
-use Rattle.rows.specs.Passes.{top_of, line_top, outside_of, atom_top}
-use Rattle.rows.proofs.Highest.{highest_holds, highest_least, highest_same, top_holds, top_least, top_highest}
+use Rattle.rows.specs.Passes.{line_top, outside_of, atom_top}
+use Rattle.rows.proofs.Highest.{highest_holds, highest_least, top_holds, top_least, top_highest}
 use Rattle.rows.proofs.Sorting.{as_line}
 
 module _ (r : Lines) (f : ℕ → ℕ) where

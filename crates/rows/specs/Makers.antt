@@ -1,5 +1,5 @@
 -- What nodes read, and which nodes make it. Assumes nothing.
-use Rattle.std.specs.Prelude.{◌≡◌, ℕ, ◌<◌, Bool, true, false, not, ◌&&◌, Some, Decides}
+use Rattle.std.specs.Prelude.{◌≡◌, ℕ, Bool, true, not, ◌&&◌, Some, Decides}
 use Rattle.graph.specs.Rounds.{some_below}
 use Rattle.lines.specs.declared.line.Line.{Line}
 use Rattle.lines.specs.declared.line.Line.TheVariants.{Read, Copy, Add, Sub, Less, Equal, Choose, Write}
@@ -7,7 +7,7 @@ use Rattle.lines.specs.declared.lines.Lines.{Lines}
 use Rattle.lines.specs.Layout.{reads_line}
 use Rattle.line_graph.specs.Edges.{line_at, read_by}
 use Rattle.codelets.specs.Codelets.{is_named, read_of, InCodelet, in_codelet}
-use Rattle.stages.specs.declared.node.Node.TheVariants.{Line as Outside, Echo, Atom}
+use Rattle.stages.specs.declared.node.Node.TheVariants.{Line as Outside, Echo}
 use Rattle.rows.specs.Sorts.{sort_of, is_node}
 
 -- a line of state s's codelet, and it reads line m

@@ -1,5 +1,5 @@
 -- Rows. Assumes nothing.
-use Rattle.std.specs.Prelude.{◌≡◌, ℕ, zero, suc, ◌+◌, ◌<◌, ◌≤◌, max, Bool, true, false, cond}
+use Rattle.std.specs.Prelude.{◌≡◌, ℕ, zero, suc, ◌+◌, ◌<◌, ◌≤◌, max, Bool, true, cond}
 use Rattle.lines.specs.declared.lines.Lines.{Lines}
 use Rattle.rows.specs.Sorts.{is_node}
 use Rattle.rows.specs.Makers.{makes, Reads}

@@ -1,14 +1,12 @@
 -- Worked examples: lines with their codelets, echoes and rows. Assumes nothing.
-use Rattle.std.specs.Prelude.{◌≡◌, ℕ, Bool, true, false, List, [], ◌∷◌, map, take, Some, None, Option}
+use Rattle.std.specs.Prelude.{◌≡◌, true, false, List, [], ◌∷◌, map, take, Some, None}
 use Rattle.std.specs.List.{range_with_len}
-use Rattle.lines.specs.declared.line.Source.{Source}
 use Rattle.lines.specs.declared.line.Source.TheVariants.{Field, Line as Made, Constant as Fixed}
 use Rattle.lines.specs.declared.line.Line.{Line}
-use Rattle.lines.specs.declared.line.Line.TheVariants.{Read, Copy, Add, Sub, Less, Equal, Choose, Write}
+use Rattle.lines.specs.declared.line.Line.TheVariants.{Read, Copy, Add, Equal, Choose, Write}
 use Rattle.lines.specs.declared.lines.Lines.{Lines}
 use Rattle.codelets.specs.Codelets.{in_codelet, crowded}
 use Rattle.echoes.specs.Echoes.{echo}
-use Rattle.stages.specs.declared.node.Node.{Node}
 use Rattle.stages.specs.declared.node.Node.TheVariants.{Line as Outside, Echo, Atom}
 use Rattle.rows.specs.Sorts.{sort_of}
 use Rattle.rows.specs.Rows.{row_of}

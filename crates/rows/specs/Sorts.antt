@@ -1,6 +1,6 @@
 -- The nodes: outside lines, echoes and atoms. Assumes nothing.
 -- An atom stands at its state's read line and an echo at its inner line, so that the maker of a line's value has the line's number.
-use Rattle.std.specs.Prelude.{◌≡◌, ℕ, ◌<◌, Bool, true, false, cond, not, ◌&&◌, is_some, Some, None, Option, nat_lt}
+use Rattle.std.specs.Prelude.{◌≡◌, ℕ, ◌<◌, Bool, true, false, cond, is_some, Some, None, Option, nat_lt}
 use Rattle.lines.specs.declared.line.Line.{Line}
 use Rattle.lines.specs.declared.line.Line.TheVariants.{Read, Copy, Add, Sub, Less, Equal, Choose, Write}
 use Rattle.lines.specs.declared.lines.Lines.{Lines}

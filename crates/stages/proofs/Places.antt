@@ -1,7 +1,7 @@
 -- Stages keep the order of rows and their room. Assumes nothing.
-use Rattle.std.proofs.Common.{◌≡◌, ℕ, zero, suc, ◌+◌, ◌-◌, ◌*◌, ◌/◌, ◌<◌, ◌≤◌, max, Bool, true, false, cond, ◌&&◌, eqb, ◌⊎◌, List, get_or, is_some, Some, None, Option, sym, refl, ap, ◌∙◌, subst, ap₂, inl, inr, ⊎_elim, le-div_iff_mul-le, div-mul-le_self, add-one, arith}
+use Rattle.std.proofs.Common.{◌≡◌, ℕ, zero, suc, ◌+◌, ◌-◌, ◌*◌, ◌/◌, ◌<◌, ◌≤◌, max, Bool, true, false, ◌&&◌, eqb, List, get_or, is_some, Some, None, Option, sym, refl, ap, ◌∙◌, subst, ⊎_elim, le-div_iff_mul-le, div-mul-le_self, arith}
 use native.Mathlib.Nat.{le-max_left, le-max_right, lt-div-mul-add}
-use Rattle.std.proofs.lemmas.Bool.{both_ways, false≢true, cases_eq, cases_order, and_parts, and_from, and_right, eqb-true, eq-eqb}
+use Rattle.std.proofs.lemmas.Bool.{both_ways, false≢true, cases_order, and_parts, and_from, and_right, eqb-true, eq-eqb}
 use Rattle.stages.specs.declared.node.Node.{Node}
 use Rattle.stages.specs.declared.node.Slot.{Slot}
 use Rattle.stages.specs.declared.node.Slot.TheVariants.{Stateless, Stateful}

@@ -1,10 +1,9 @@
 -- How far the rows are filled, from one row to the next. Assumes nothing.
-use Rattle.std.proofs.Common.{◌≡◌, ℕ, zero, suc, ◌+◌, ◌<◌, ◌≤◌, Bool, true, false, cond, not, ◌&&◌, eqb, ltb, ◌⊎◌, List, length, get_or, is_some, Some, None, Option, sym, refl, ap, ◌∙◌, subst, ap₂, inl, inr, ⊎_elim, add-one, arith}
+use Rattle.std.proofs.Common.{◌≡◌, ℕ, suc, ◌+◌, ◌<◌, ◌≤◌, Bool, true, false, cond, not, ◌&&◌, eqb, ltb, List, length, get_or, is_some, Some, None, Option, sym, refl, ap, ◌∙◌, subst, ⊎_elim, arith}
 use Rattle.std.proofs.lemmas.Bool.{both_ways, true≢false, cases_Bool, cases_order, cond-true, cond-false, and_parts, and_from, and_right, not-true, not_from_true, not_from_false, eq-eqb, ne_eqb, ltb-true, ltb-false, lt-ltb, le-ltb}
 use Rattle.stages.specs.declared.node.Node.{Node}
 use Rattle.stages.specs.declared.node.Nodes.{Nodes}
 use Rattle.stages.specs.Filling.{tally, highest, node_at, is_node, row_of, width, below, placed, stage_of}
-use Rattle.stages.specs.Rows.{comes_after}
 use Rattle.stages.proofs.Counts.{tally_lt}
 use Rattle.stages.proofs.Widths.{below_zero, below_suc, below_few, below_skip, highest_holds, highest_within}
 use Rattle.stages.proofs.NextRow.{Least}

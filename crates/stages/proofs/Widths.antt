@@ -1,13 +1,13 @@
 -- The stages that rows take. Assumes nothing.
-use Rattle.std.proofs.Common.{◌≡◌, ℕ, zero, suc, ◌+◌, ◌-◌, ◌*◌, ◌/◌, ◌<◌, ◌≤◌, max, Bool, true, false, cond, ◌&&◌, eqb, ltb, ◌⊎◌, is_some, Some, None, Option, sym, refl, ap, ◌∙◌, subst, ap₂, inl, inr, ⊎_elim, div-lt_iff_lt-mul, add-mul, one-mul, le-div_iff_mul-le, le-mul_of_pos_right, div-mul-le_self, add-one, arith}
+use Rattle.std.proofs.Common.{◌≡◌, ℕ, zero, suc, ◌+◌, ◌-◌, ◌*◌, ◌/◌, ◌<◌, ◌≤◌, max, Bool, true, false, cond, ◌&&◌, eqb, ltb, is_some, Some, None, Option, refl, ap, subst, ⊎_elim, div-lt_iff_lt-mul, add-mul, one-mul, le-div_iff_mul-le, le-mul_of_pos_right, div-mul-le_self, arith}
 use native.Mathlib.Nat.{max-le, le-max_left, le-max_right}
-use Rattle.std.proofs.lemmas.Bool.{both_ways, false≢true, cases_Bool, cases_eq, cond-true, cond-false, and_parts, and_from, and_right, eqb-true, eq-eqb, ne_eqb, ltb-true, lt-ltb, le-ltb}
+use Rattle.std.proofs.lemmas.Bool.{false≢true, cases_Bool, cases_eq, cond-true, and_parts, and_from, and_right, eqb-true, ne_eqb, ltb-true, lt-ltb}
 use Rattle.stages.specs.declared.node.Node.{Node}
 use Rattle.stages.specs.declared.node.Slot.{Slot}
 use Rattle.stages.specs.declared.node.Slot.TheVariants.{Stateless, Stateful}
 use Rattle.stages.specs.declared.node.Nodes.{Nodes}
 use Rattle.stages.specs.Filling.{tally, highest, ceiling, takes, node_at, is_node, row_of, in_row, width, below}
-use Rattle.stages.proofs.Counts.{tally_start, tally_le, tally_none, tally_most, tally_apart}
+use Rattle.stages.proofs.Counts.{tally_le, tally_none, tally_most, tally_apart}
 
 -- a share of a room is full before it is rounded up
 pub ceiling_room : (i m room : ℕ) → 1 ≤ room → i < m → i / room < ceiling m room

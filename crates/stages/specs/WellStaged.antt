@@ -1,11 +1,11 @@
 -- What every filling of stages keeps. Assumes nothing.
-use Rattle.std.specs.Prelude.{◌≡◌, ℕ, ◌<◌, ◌≤◌, Bool, true, false, cond, ◌&&◌, List, Some, None, Option, ◌==◌, nat_lt, slice_index}
+use Rattle.std.specs.Prelude.{◌≡◌, ℕ, ◌<◌, ◌≤◌, true, false, cond, ◌&&◌, Some, None, Option, ◌==◌, nat_lt, slice_index}
 use Rattle.stages.specs.declared.fault.StageFault.{StageFault}
 use Rattle.stages.specs.declared.node.Slot.{Slot}
 use Rattle.stages.specs.declared.node.Slot.TheVariants.{Stateless, Stateful}
 use Rattle.stages.specs.declared.node.Nodes.{Nodes}
 use Rattle.stages.specs.declared.node.Stages.{Stages}
-use Rattle.stages.specs.Filling.{tally, takes, node_at, is_node, row_of, stage_count}
+use Rattle.stages.specs.Filling.{tally, takes, node_at, is_node, row_of}
 
 -- more stages are needed than there are: the number needed
 abbrev pub too_deep : ℕ → ℕ → Option StageFault

@@ -1,7 +1,6 @@
 -- Two worked examples. Assumes nothing.
-use Rattle.std.specs.Prelude.{◌≡◌, ℕ, List, [], ◌∷◌, map, Some, None, Option}
+use Rattle.std.specs.Prelude.{◌≡◌, ℕ, List, [], ◌∷◌, map, Some, None}
 use Rattle.std.specs.List.{range_with_len}
-use Rattle.stages.specs.declared.node.Node.{Node}
 use Rattle.stages.specs.declared.node.Node.TheVariants.{Line, Echo, Atom}
 use Rattle.stages.specs.declared.node.Nodes.{Nodes}
 use Rattle.stages.specs.Filling.{stage_of, stage_count}

@@ -1,5 +1,5 @@
 -- The open ifs at the front of a table. Assumes nothing.
-use Rattle.std.proofs.Common.{◌≡◌, ℕ, suc, ◌+◌, ◌-◌, ◌<◌, ◌≤◌, Bool, true, false, not, ltb, List, [], ◌∷◌, ◌++◌, reverse, length, get_or, take, set, sym, refl, ap, ◌∙◌, ap₂, arith, length-take-le}
+use Rattle.std.proofs.Common.{◌≡◌, ℕ, suc, ◌+◌, ◌-◌, ◌<◌, ◌≤◌, true, false, not, ltb, List, [], ◌∷◌, reverse, length, get_or, take, set, sym, refl, ap, ◌∙◌, ap₂, arith, length-take-le}
 use Rattle.std.proofs.lemmas.List.{take_more, take_more_set, reverse-append, length-reverse}
 use Rattle.std.proofs.lemmas.Bool.{lt-ltb, le-ltb}
 use Rattle.transaction.specs.declared.frame.Frame.{Frame}

@@ -1,7 +1,7 @@
 -- What the numbers of an image name. Assumes nothing.
-use Rattle.std.specs.Prelude.{ℕ, ◌+◌, ◌-◌, cond, ◌&&◌, Some, None, Option, ◌==◌, nat_le, nat_lt}
+use Rattle.std.specs.Prelude.{ℕ, ◌-◌, cond, ◌&&◌, Some, None, Option, ◌==◌, nat_le, nat_lt}
 use Rattle.transaction.specs.declared.statement.Operand.{Operand}
-use Rattle.transaction.specs.declared.statement.Operand.TheVariants.{Field, State, Constant}
+use Rattle.transaction.specs.declared.statement.Operand.TheVariants.{Field, State}
 use Rattle.transaction.specs.declared.statement.Target.{Target}
 use Rattle.transaction.specs.declared.statement.Target.TheVariants.{Field as ToField, State as ToState}
 use Rattle.transaction.specs.declared.statement.Place.{Place}

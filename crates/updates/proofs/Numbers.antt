@@ -1,5 +1,5 @@
 -- The numbers of read lines are small. Assumes nothing.
-use Rattle.std.proofs.Common.{◌≡◌, ℕ, zero, suc, ◌+◌, ◌<◌, ◌≤◌, Bool, true, false, List, [], ◌∷◌, length, get_or, sym, ap, subst, arith}
+use Rattle.std.proofs.Common.{◌≡◌, ℕ, zero, suc, ◌+◌, ◌≤◌, Bool, true, false, List, [], ◌∷◌, length, get_or, sym, subst, arith}
 use Rattle.lines.specs.declared.lines.Lines.{Lines}
 use Rattle.lines.specs.Build.{numbered}
 use Rattle.codelets.specs.Codelets.{read_of}

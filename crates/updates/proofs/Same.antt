@@ -1,8 +1,7 @@
 -- Two codelets of the same lines are the same. Assumes nothing.
-use Rattle.std.proofs.Common.{◌≡◌, ℕ, Bool, true, List, refl, ap}
+use Rattle.std.proofs.Common.{◌≡◌, true}
 use mathlib.Core.HLevel.{is_prop→PathP}
 use mathlib.Core.Bool.{Bool-set}
-use Rattle.lines.specs.declared.line.Line.{Line}
 use Rattle.resolving.specs.declared.codelet.Codelet.{Codelet}
 use Rattle.resolving.specs.Reads.{lower_from}
 

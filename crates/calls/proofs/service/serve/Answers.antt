@@ -1,5 +1,5 @@
-use Rattle.std.proofs.Common.{◌≡◌, ℕ, sym, subst}
-use Rattle.image.specs.Reading.{Answer, good}
+use Rattle.std.proofs.Common.{sym, subst}
+use Rattle.image.specs.Reading.{good}
 use Rattle.plans.specs.declared.plan.Plan.{Plan}
 use Rattle.compiler.specs.Verdict.{Verdict}
 use Rattle.calls.proofs.Serving.{serves}

@@ -1,4 +1,4 @@
-use Rattle.std.proofs.Common.{◌≡◌, true, replicate, sym, refl, subst}
+use Rattle.std.proofs.Common.{◌≡◌, true, replicate, refl, subst}
 use Rattle.lines.specs.declared.line.Source.{Source}
 use Rattle.resolving.specs.declared.codelet.Codelet.{Codelet}
 use Rattle.resolving.specs.declared.decided.Decided.{Decided}

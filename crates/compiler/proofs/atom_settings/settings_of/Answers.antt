@@ -1,5 +1,4 @@
-use Rattle.std.proofs.Common.{◌≡◌, ℕ, List, length, sym, refl, ap, ◌∙◌, subst, arith, length-set}
-use Rattle.compiler.specs.Settings.{SetBelow}
+use Rattle.std.proofs.Common.{length, sym, refl, ap, ◌∙◌, arith, length-set}
 use Rattle.compiler.proofs.Fitting.{set_none, set_unnamed, set_taken, set_all, named_untaken}
 use Rattle.compiler.proofs.atom_settings.settings_of.Goals as goal
 use Rattle.compiler.proofs.atom_settings.settings_of.Goals.{then-at+in-Some, else-at}

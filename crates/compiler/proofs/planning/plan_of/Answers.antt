@@ -1,10 +1,10 @@
-use Rattle.std.proofs.Common.{◌≡◌, sym, refl, subst, arith}
+use Rattle.std.proofs.Common.{sym, refl, subst}
 use Rattle.std.proofs.lemmas.Result.{err_from_is_err_and}
 use Rattle.transaction.specs.Programs.{statements_of}
 use Rattle.lines.specs.declared.lines.Lines.{Lines}
 use Rattle.lines.specs.Unique.{IsTableOf}
 use Rattle.plans.proofs.Soundness.{Found}
-use Rattle.compiler.proofs.Steps.{Told, exit_codelets, exit_settings, exit_stages, planned, some_stage, few_stages, earlier}
+use Rattle.compiler.proofs.Steps.{exit_codelets, exit_settings, exit_stages, planned, some_stage, few_stages, earlier}
 use Rattle.compiler.proofs.planning.plan_of.Goals as goal
 
 pub returns-in_err-codelets : goal.returns-in_err-codelets

@@ -1,5 +1,5 @@
 -- One line more; from the count on there are no such lines.
-use Rattle.std.proofs.Common.{◌≡◌, ◌≤◌, true, false, get_or, replicate, sym, refl, ap, ◌∙◌, subst, ⊎_elim, arith}
+use Rattle.std.proofs.Common.{true, false, replicate, sym, ap, ◌∙◌, subst, ⊎_elim, arith}
 use Rattle.graph.specs.declared.marks.Marks.{Marks}
 use Rattle.std.proofs.lemmas.Bool.{cases_lt}
 use Rattle.codelets.specs.Inner.{inner}

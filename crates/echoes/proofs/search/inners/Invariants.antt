@@ -1,5 +1,5 @@
 -- The lines passed so far are marked.
-use Rattle.std.proofs.Common.{◌≡◌, false, length, replicate}
+use Rattle.std.proofs.Common.{false, replicate}
 use Rattle.codelets.specs.Inner.{inner}
 use Rattle.codelets.proofs.Turns.{Filled}
 use Rattle.echoes.proofs.search.inners.Given as goal

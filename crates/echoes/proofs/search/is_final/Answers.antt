@@ -1,5 +1,5 @@
 -- One of the final values is the line, or none is.
-use Rattle.std.proofs.Common.{◌≡◌, true, get_or, sym, ap, ◌∙◌, arith}
+use Rattle.std.proofs.Common.{sym, ap, ◌∙◌, arith}
 use Rattle.lines.specs.declared.line.Source.TheVariants.{Constant}
 use Rattle.lines.specs.Layout.{is_line}
 use Rattle.echoes.proofs.Least.{any_one, any_none}

@@ -1,5 +1,5 @@
 -- The lines passed so far are marked.
-use Rattle.std.proofs.Common.{◌≡◌, false, length, replicate}
+use Rattle.std.proofs.Common.{false, replicate}
 use Rattle.echoes.specs.Echoes.{seed}
 use Rattle.codelets.proofs.Turns.{Filled}
 use Rattle.echoes.proofs.search.seeds.Given as goal

@@ -1,5 +1,5 @@
 -- One node more is expanded.
-use Rattle.std.proofs.Common.{◌≡◌, true, cond, sym, refl, ap, ◌∙◌, arith}
+use Rattle.std.proofs.Common.{◌≡◌, true, cond, sym, ap, ◌∙◌, arith}
 use Rattle.graph.proofs.Marking.{sweep_none, sweep_more}
 use Rattle.graph.proofs.search.ascend.Goals as goal
 use Rattle.graph.proofs.search.ascend.Goals.{then-expand, else-expand}

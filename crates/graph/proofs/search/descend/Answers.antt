@@ -1,5 +1,5 @@
 -- One node more is expanded.
-use Rattle.std.proofs.Common.{◌≡◌, true, cond, sym, refl, ap, ◌∙◌, arith}
+use Rattle.std.proofs.Common.{true, cond, sym, ap}
 use Rattle.graph.proofs.Marking.{grown_none, grown_then}
 use Rattle.graph.proofs.search.descend.Goals as goal
 

@@ -1,5 +1,5 @@
 -- One node more is visited.
-use Rattle.std.proofs.Common.{◌≡◌, Bool, true, cond, sym, refl, ap, ◌∙◌, arith}
+use Rattle.std.proofs.Common.{◌≡◌, true, cond, sym, ap, ◌∙◌, arith}
 use Rattle.graph.proofs.Marking.{following_none, following_more}
 use Rattle.graph.proofs.search.follow.Goals as goal
 use Rattle.graph.proofs.search.follow.Goals.{then-visit, else-visit}

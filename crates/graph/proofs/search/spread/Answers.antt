@@ -1,6 +1,4 @@
 -- The search starts with the marks it got; at the end no edge leaves its marks.
-use Rattle.std.proofs.Common.{◌≡◌, Bool, true, refl, subst, arith}
-use Rattle.graph.specs.Searches.{Grown}
 use Rattle.graph.proofs.Marking.{Searched, searched_none, searched_more, searched_all, searched_others, left_less}
 use Rattle.graph.proofs.search.spread.Goals as goal
 

@@ -1,4 +1,4 @@
-use Rattle.std.proofs.Common.{◌≡◌, ◌+◌, ◌*◌, ◌^◌, ◌<◌, ◌≤◌, sym, subst, lt_of_lt_of_le, arith, pow_mono, shl_lt, shl_exact}
+use Rattle.std.proofs.Common.{◌+◌, ◌*◌, ◌^◌, ◌<◌, ◌≤◌, lt_of_lt_of_le, arith, pow_mono, shl_lt, shl_exact}
 use Rattle.image.proofs.reader.weighed.Goals as goal
 
 pub returns : goal.returns

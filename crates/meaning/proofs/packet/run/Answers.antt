@@ -1,4 +1,4 @@
-use Rattle.std.proofs.Common.{◌≡◌, length, sym, refl, ap, ◌∙◌, arith}
+use Rattle.std.proofs.Common.{length, sym, ap, ◌∙◌, arith}
 use Rattle.transaction.specs.Programs.{program_of}
 use Rattle.transaction.specs.WellFormed.{Program}
 use Rattle.image.specs.Reading.{Answer}

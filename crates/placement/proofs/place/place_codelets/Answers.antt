@@ -1,5 +1,4 @@
 use Rattle.std.proofs.Common.{refl, rules}
-use Rattle.codelets.specs.Codelets.{Coded}
 use Rattle.codelets.proofs.Owners.{coded}
 use Rattle.placement.proofs.Placing.{earlier}
 use Rattle.placement.proofs.place.place_codelets.Goals as goal

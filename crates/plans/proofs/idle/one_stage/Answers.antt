@@ -1,4 +1,4 @@
-use Rattle.std.proofs.Common.{ℕ, replicate, None, refl}
+use Rattle.std.proofs.Common.{replicate, None, refl}
 use Rattle.codelets.proofs.Turns.{get_or_all}
 use Rattle.plans.proofs.Empty.{unowned, apart, placed_empty}
 use Rattle.plans.proofs.idle.one_stage.Goals as goal

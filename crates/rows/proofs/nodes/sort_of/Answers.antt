@@ -1,5 +1,5 @@
 -- The four tests.
-use Rattle.std.proofs.Common.{◌≡◌, true, false, sym, ap, ◌∙◌, arith}
+use Rattle.std.proofs.Common.{true, false, sym, ap, ◌∙◌, arith}
 use Rattle.std.proofs.lemmas.Bool.{lt-ltb}
 use Rattle.rows.specs.Sorts.{is_read}
 use Rattle.rows.proofs.Sorting.{sort_from}

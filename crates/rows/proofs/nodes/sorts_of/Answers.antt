@@ -1,8 +1,7 @@
 -- One number more; past the table nothing stands.
-use Rattle.std.proofs.Common.{◌≡◌, ◌≤◌, cond, ltb, length, get_or, replicate, Some, None, sym, refl, ap, ◌∙◌, ⊎_elim, arith, length-set}
-use Rattle.std.proofs.lemmas.Bool.{cases_lt, le-ltb}
+use Rattle.std.proofs.Common.{replicate, None, sym, refl, ◌∙◌, ⊎_elim, arith, length-set}
+use Rattle.std.proofs.lemmas.Bool.{cases_lt}
 use Rattle.std.proofs.lemmas.List.{get_or_past}
-use Rattle.codelets.specs.Inner.{owned}
 use Rattle.codelets.proofs.Turns.{fill_write}
 use Rattle.rows.specs.Sorts.{sort_of}
 use Rattle.rows.proofs.Sorting.{sort_past}

@@ -1,5 +1,5 @@
 -- An atom's makers, or a line's.
-use Rattle.std.proofs.Common.{◌≡◌, sym, ◌∙◌}
+use Rattle.std.proofs.Common.{sym, ◌∙◌}
 use Rattle.rows.specs.Passes.{row_at}
 use Rattle.rows.proofs.Sorting.{unread_line}
 use Rattle.rows.proofs.Tops.{above_line, above_atom}

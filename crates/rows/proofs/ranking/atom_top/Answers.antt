@@ -1,5 +1,5 @@
 -- One line more.
-use Rattle.std.proofs.Common.{◌≡◌, ℕ, max, cond, sym, ap, ◌∙◌}
+use Rattle.std.proofs.Common.{ℕ, cond, ap, ◌∙◌}
 use Rattle.line_graph.specs.Edges.{line_at}
 use Rattle.codelets.specs.Codelets.{in_codelet}
 use Rattle.rows.specs.Passes.{row_at, line_top, outside_of}

@@ -1,5 +1,5 @@
 -- A number rises, or stands.
-use Rattle.std.proofs.Common.{◌≡◌, sym, ◌∙◌, arith}
+use Rattle.std.proofs.Common.{arith}
 use Rattle.rows.proofs.Passing.{pass_start, pass_write, pass_keep, pass_end, next_low}
 use Rattle.rows.proofs.ranking.pass.Goals as goal
 use Rattle.rows.proofs.ranking.pass.Goals.{then-at-row, else-at-row}

@@ -1,5 +1,5 @@
 -- Numbers that no pass raises are the rows.
-use Rattle.std.proofs.Common.{◌≡◌, ℕ, sym, refl, ◌∙◌, arith}
+use Rattle.std.proofs.Common.{ℕ, refl, ◌∙◌, arith}
 use Rattle.codelets.proofs.Turns.{get_or_all}
 use Rattle.rows.proofs.Passing.{at_last}
 use Rattle.rows.proofs.ranking.rows_of.Goals as goal

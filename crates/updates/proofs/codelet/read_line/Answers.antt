@@ -1,4 +1,4 @@
-use Rattle.std.proofs.Common.{ℕ, ◌≤◌, sym, subst, arith}
+use Rattle.std.proofs.Common.{arith}
 use Rattle.updates.proofs.Numbers.{reads_low}
 use Rattle.updates.proofs.codelet.read_line.Goals as goal
 

@@ -1,5 +1,5 @@
 -- The owner's test is the definition's.
-use Rattle.std.proofs.Common.{◌≡◌, ℕ, Option, ap, ◌∙◌}
+use Rattle.std.proofs.Common.{ℕ, Option, ap, ◌∙◌}
 use Rattle.codelets.specs.Codelets.{is_owner}
 use Rattle.codelets.proofs.codelets.Codelets.owns.Goals as goal
 

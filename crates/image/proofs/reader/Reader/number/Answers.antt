@@ -1,4 +1,4 @@
-use Rattle.std.proofs.Common.{◌≡◌, ◌+◌, sym, ◌∙◌, arith, rules}
+use Rattle.std.proofs.Common.{◌+◌, sym, ◌∙◌, arith}
 use Rattle.image.proofs.Numbers.{ended, five, last, more}
 use Rattle.image.proofs.reader.Reader.number.Goals as goal
 

@@ -1,6 +1,6 @@
-use Rattle.std.proofs.Common.{◌≡◌, ◌-◌, ◌≤◌, length, sym, refl, ◌∙◌, arith, length-set}
+use Rattle.std.proofs.Common.{◌≡◌, ◌-◌, sym, ◌∙◌, arith, length-set}
 use Rattle.std.proofs.lemmas.Result.{err_from_is_err_and}
-use Rattle.image.proofs.Tables.{one, misfit, stop, stop_late, left_open, all_closed}
+use Rattle.image.proofs.Tables.{one, misfit, stop, stop_late, left_open}
 use Rattle.image.proofs.reader.Reader.statements.Goals as goal
 
 pub returns-in_err-kind : goal.returns-in_err-kind

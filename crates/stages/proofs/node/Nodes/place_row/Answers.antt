@@ -1,4 +1,4 @@
-use Rattle.std.proofs.Common.{◌≡◌, ℕ, Bool, eqb, sym, ◌∙◌, arith}
+use Rattle.std.proofs.Common.{ℕ, Bool, eqb, sym, ◌∙◌, arith}
 use Rattle.std.proofs.lemmas.Bool.{eq-eqb, ne_eqb}
 use Rattle.stages.specs.Filling.{row_of, node_at, placed}
 use Rattle.stages.proofs.Tables.{fill_start, fill_write, fill_skip}

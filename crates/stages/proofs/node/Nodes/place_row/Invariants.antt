@@ -1,4 +1,4 @@
-use Rattle.std.proofs.Common.{cond, eqb}
+use Rattle.std.proofs.Common.{eqb}
 use Rattle.stages.specs.Filling.{row_of, node_at, placed}
 use Rattle.stages.proofs.Tables.{Filled}
 use Rattle.stages.proofs.node.Nodes.place_row.Given as goal
