@@ -1,9 +1,9 @@
 -- The column of a malformed line is that of its first fault. Assumes nothing.
-use Rattle.std.proofs.Common.{◌≡◌, ℕ, suc, ◌+◌, ◌<◌, ◌≤◌, List, [], ◌∷◌, ◌++◌, length, take, Some, None, Option, sym, refl, ◌∙◌, subst, add-one, arith}
+use Rattle.std.proofs.Common.{◌≡◌, ℕ, suc, ◌+◌, ◌<◌, ◌≤◌, List, [], ◌∷◌, ◌++◌, length, take, None, Option, sym, refl, ◌∙◌, subst, add-one, arith}
 use Rattle.text.specs.declared.step.Step.{Step}
 use Rattle.text.specs.declared.step.Step.TheVariants.{Onward, Whole, Stuck}
 use Rattle.text.specs.Decoding.{Decoded, decoded, malformed, read_from, decoding}
-use Rattle.text.specs.Theorem.{Begins, FirstFault}
+use Rattle.text.specs.Theorem.{FirstFault}
 use Rattle.text.proofs.Readings.{read_onward, read_whole, read_stuck}
 
 -- what bytes give, a line's end behind them

@@ -1,5 +1,5 @@
 // The lines of an input, and the words of a line.
-ghost use Rattle.std.specs.Prelude.{◌≡◌, ℕ, ◌<◌, ◌≤◌, length, slice_index};
+ghost use Rattle.std.specs.Prelude.{◌≡◌, ℕ, ◌<◌, ◌≤◌, ◌≢◌, length, slice_index};
 ghost use Rattle.text.specs.Bytes.{First};
 
 // The index of the first such byte at or after `from`, or the input's length where there is none.
@@ -18,7 +18,7 @@ fn find_byte(input: &[u8], from: usize, byte: u8) -> usize
 pub fn line_end(input: &[u8], from: usize) -> usize
     ensures within { result ≤ length input.now }
     ensures forward { from ≤ length input.now → from ≤ result }
-    ensures before { (k : ℕ) → from ≤ k → k < result → slice_index input.now k ≡ 10 → ⊥ }
+    ensures before { (k : ℕ) → from ≤ k → k < result → slice_index input.now k ≢ 10 }
     ensures found { result < length input.now → (from ≤ result) × (slice_index input.now result ≡ 10) }
 {
     find_byte(input, from, b'\n')

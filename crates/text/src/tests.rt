@@ -7,7 +7,7 @@ use std::test::Fail;
 fn hexadecimal_lines(rt: HostRuntime) -> Result<(), Fail> {
     let mut bytes = Vec::new(rt.alloc());
     decode_hex(b"\t0aF7 10\r", &mut bytes)?;
-    assert!(rt; bytes.as_slice() == [10, 247, 16]);
+    assert!(rt; bytes.as_slice() == [10, 247, 16].as_slice());
     assert_eq!(rt; decode_hex(b"0g", &mut bytes), Err(TextFault::Malformed(1)));
     assert!(rt; bytes.is_empty());
     assert_eq!(rt;
@@ -25,7 +25,7 @@ fn hexadecimal_lines(rt: HostRuntime) -> Result<(), Fail> {
 fn decimal_lines(rt: HostRuntime) -> Result<(), Fail> {
     let mut words = Vec::new(rt.alloc());
     decode_words(b" 7  0042 4294967295 ", &mut words)?;
-    assert!(rt; words.as_slice() == [7, 42, 4294967295]);
+    assert!(rt; words.as_slice() == [7, 42, 4294967295].as_slice());
     assert_eq!(rt;
         decode_words(b"1 4294967296", &mut words),
         Err(TextFault::Malformed(11))
