@@ -4,7 +4,7 @@ use borrow.Author.Tests.{lt-leb}
 use Rattle.std.proofs.lemmas.Bool.{cases_eq, cases_order}
 use Rattle.std.proofs.lemmas.List.{length-map, get_or-replicate, length-replicate}
 use Rattle.std.proofs.ByRecursion.{All-push}
-use Rattle.std.specs.List.{AllByRecursion as All}
+use Rattle.std.specs.List.{AllByRecursion}
 use Rattle.transaction.specs.Faults.{refusal}
 use Rattle.meaning.specs.Serial.{Values, values}
 use Rattle.image.specs.Reading.{Answer}
@@ -42,7 +42,7 @@ module _ {Row : Type 0} (P : Pipeline Row) (one : Values → Values) (R : Right 
   stage s = P.shape.stage s
 
   abbrev Proper : List Packet → Type 0
-  Proper b = All (λ (p : Packet). Words P.shape.width (fields_of p)) b
+  Proper b = AllByRecursion (λ (p : Packet). Words P.shape.width (fields_of p)) b
 
   -- what a packet leaves of the words
   abbrev left : List ℕ → List ℕ → List ℕ
@@ -307,7 +307,7 @@ module _ {Row : Type 0} (P : Pipeline Row) (one : Values → Values) (R : Right 
       (e, agrees_after c b m m' (answer P.shape one c b) w (decided P.shape one c b) a (subst (λ (x : Answer Outcome). Stepped P x c m m') e t))
 
   -- one call after another
-  pub calls_from : (cs : List Call) (b : List Packet) (m m' : Contents Row) (rs : List (Answer Outcome)) → All FeedsWords cs → Agrees P one b m → Ran P cs m rs m' → (rs ≡ answers P.shape one cs b) × Agrees P one (ended P.shape one cs b) m'
+  pub calls_from : (cs : List Call) (b : List Packet) (m m' : Contents Row) (rs : List (Answer Outcome)) → AllByRecursion FeedsWords cs → Agrees P one b m → Ran P cs m rs m' → (rs ≡ answers P.shape one cs b) × Agrees P one (ended P.shape one cs b) m'
   calls_from cs b m m' rs w a (Ran.none) = (refl, a)
   calls_from cs b m m' rs w a (Ran.next {c = c} {cs = ds} {m = k} {m' = k'} {rs = qs} t r) =
       let x = one_call c w.0 b k k' a t in

@@ -1,6 +1,6 @@
 -- When a machine agrees with a book. Assumes nothing.
 use Rattle.std.specs.Prelude.{◌≡◌, ℕ, suc, ◌<◌, ◌≤◌, List, [], ◌∷◌, length, None, slice_index}
-use Rattle.std.specs.List.{AllByRecursion as All}
+use Rattle.std.specs.List.{AllByRecursion}
 use Rattle.meaning.specs.Serial.{Values, values}
 use Rattle.book.specs.Run.{zeroed, words_after}
 use Rattle.book.specs.Calls.{Call}
@@ -48,7 +48,7 @@ module _ {Row : Type 0} (P : Pipeline Row) (one : Values → Values) where
     pub room : Room P m
     pub lined : Lined P.shape.depth (suc P.shape.depth) b
     -- each packet has its fields, and they are words
-    pub fields : All (λ p. Words P.shape.width (fields_of p)) b
+    pub fields : AllByRecursion (λ p. Words P.shape.width (fields_of p)) b
     -- the places hold the packets that the book has there
     pub places : (q : ℕ) → q ≤ P.shape.depth → packet_at m q ≡ standing q b
     -- the counts are the packets that have reached each place

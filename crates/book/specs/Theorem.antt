@@ -1,6 +1,6 @@
 -- A right pipeline is served as the book says. Assumes nothing.
 use Rattle.std.specs.Prelude.{◌≡◌, ℕ, true, List, []}
-use Rattle.std.specs.List.{AllByRecursion as All}
+use Rattle.std.specs.List.{AllByRecursion}
 use Rattle.word.specs.Words.{Word}
 use Rattle.transaction.specs.WellFormed.{Program, well_formed}
 use Rattle.meaning.specs.Serial.{Values}
@@ -28,7 +28,7 @@ module _ {Row : Type 0} (P : Pipeline Row) (one : Values → Values) where
     pub served : Served P.shape one cs rs m
 
   abbrev pub EveryRun : Type 0
-  EveryRun = (cs : List Call) (rs : List (Answer Outcome)) (m m' : Contents Row) → All FeedsWords cs → Fresh P m → Ran P cs m rs m' → CalledAll cs rs m'
+  EveryRun = (cs : List Call) (rs : List (Answer Outcome)) (m m' : Contents Row) → AllByRecursion FeedsWords cs → Fresh P m → Ran P cs m rs m' → CalledAll cs rs m'
 
 -- of words it makes words
 abbrev pub WordsToWords : (ℕ → ℕ → ℕ) → Type 0

@@ -1,6 +1,6 @@
 -- The constants that lines read are words, and so is every value. Assumes nothing.
 use Rattle.std.proofs.Common.{◌≡◌, ℕ, zero, suc, ◌<◌, ◌≤◌, Bool, true, false, cond, ◌&&◌, eqb, ltb, ◌⊎◌, List, [], ◌∷◌, ◌++◌, map, length, get_or, sym, subst, inl, inr, arith}
-use Rattle.std.specs.List.{AllByRecursion as All}
+use Rattle.std.specs.List.{AllByRecursion}
 use Rattle.std.proofs.lemmas.List.{length_push, get_or_push, get_or_append_left, get_or_past}
 use Rattle.std.proofs.lemmas.Bool.{and_parts, cases_lt, cases_eq, leb-true}
 use Rattle.std.proofs.ByRecursion.{All-push, All-append}
@@ -32,15 +32,15 @@ Fits (Made n) = Unit {0}
 Fits (Fixed c) = Word c
 
 abbrev pub LineFits : Line → Type 0
-LineFits l = All Fits (sources_of l)
+LineFits l = AllByRecursion Fits (sources_of l)
 
 pub record Fit (d : Draft) : Type 0 where
   pub fields : (i : ℕ) → Fits (get_or d.latest.fields i (Fixed 0))
   pub states : (s : ℕ) → Fits (get_or d.latest.states s (Fixed 0))
-  pub nest : All (λ (f : Frame Source). Fits f.on) d.nest
-  pub lines : All LineFits d.lines
+  pub nest : AllByRecursion (λ (f : Frame Source). Fits f.on) d.nest
+  pub lines : AllByRecursion LineFits d.lines
 
-guarded_fit : (frames : List (Frame Source)) (old : Source) (ls : List Line) → All (λ (f : Frame Source). Fits f.on) frames → Fits old → All LineFits ls → All LineFits (guarded frames old ls)
+guarded_fit : (frames : List (Frame Source)) (old : Source) (ls : List Line) → AllByRecursion (λ (f : Frame Source). Fits f.on) frames → Fits old → AllByRecursion LineFits ls → AllByRecursion LineFits (guarded frames old ls)
 guarded_fit [] old ls c o w = w
 guarded_fit (f ∷ frames) old ls c o w =
     let l : Line = choose_for f (last ls) old in
@@ -53,14 +53,14 @@ assigned_fit (ToField i) l d w u =
 assigned_fit (ToState s) l d w u =
     record { fields = w.fields; states = set_each Fits d.latest.states s _ w.states tt; nest = w.nest; lines = guarded_fit d.nest _ _ w.nest (w.states s) (All-push LineFits d.lines l w.lines u) }
 
-nesting_fit : (frames : List (Frame Source)) (d : Draft) → Fit d → All (λ (f : Frame Source). Fits f.on) frames → Fit (nesting frames d)
+nesting_fit : (frames : List (Frame Source)) (d : Draft) → Fit d → AllByRecursion (λ (f : Frame Source). Fits f.on) frames → Fit (nesting frames d)
 nesting_fit frames d w c = record { fields = w.fields; states = w.states; nest = c; lines = w.lines }
 
-turned_fit : (frames : List (Frame Source)) → All (λ (f : Frame Source). Fits f.on) frames → All (λ (f : Frame Source). Fits f.on) (turned frames)
+turned_fit : (frames : List (Frame Source)) → AllByRecursion (λ (f : Frame Source). Fits f.on) frames → AllByRecursion (λ (f : Frame Source). Fits f.on) (turned frames)
 turned_fit [] c = tt
 turned_fit (f ∷ frames) c = c
 
-outer_fit : (frames : List (Frame Source)) → All (λ (f : Frame Source). Fits f.on) frames → All (λ (f : Frame Source). Fits f.on) (outer frames)
+outer_fit : (frames : List (Frame Source)) → AllByRecursion (λ (f : Frame Source). Fits f.on) frames → AllByRecursion (λ (f : Frame Source). Fits f.on) (outer frames)
 outer_fit [] c = tt
 outer_fit (f ∷ frames) c = c.1
 
@@ -113,7 +113,7 @@ start_fit ms = record { fields = λ i. come 16 0 i; states = λ s. firsts_fit 0 
 pub body_fit : (f s : ℕ) (xs : List Statement) → within f s xs ≡ true → Fit (body_of xs)
 body_fit f s xs e = all_fit f s xs (start (named_of xs)) (start_fit (named_of xs)) e
 
-pub lines_fit : (f s : ℕ) (xs : List Statement) → within f s xs ≡ true → All LineFits (lines_of xs)
+pub lines_fit : (f s : ℕ) (xs : List Statement) → within f s xs ≡ true → AllByRecursion LineFits (lines_of xs)
 lines_fit f s xs e =
     let w : Fit (body_of xs) = body_fit f s xs e in
     All-append LineFits (body_of xs).lines _ w.lines (mapped LineFits (write_line (body_of xs).latest.states) (states_from 0 (named_of xs)) (λ k. (w.states k, tt)))
@@ -152,6 +152,6 @@ module _ (plus minus : ℕ → ℕ → ℕ) (v : Values) (sums : (a b : ℕ) →
       go (inl k) = subst Word (sym (get_or_append_left vs (x ∷ []) 0 n k)) (w n)
       go (inr k) = late (cases_eq n (length vs)) k
 
-  pub worked_words : (ls : List Line) (vs : List ℕ) → Words vs → All LineFits ls → Words (worked_on plus minus v ls vs)
+  pub worked_words : (ls : List Line) (vs : List ℕ) → Words vs → AllByRecursion LineFits ls → Words (worked_on plus minus v ls vs)
   worked_words [] vs w u = w
   worked_words (l ∷ ls) vs w u = worked_words ls (vs ++ (makes plus minus v vs l ∷ [])) (push_word vs _ w (makes_word vs w l u.0)) u.1

@@ -1,6 +1,6 @@
 -- The lines of the statements follow the read lines, and each reads only lower lines. Assumes nothing.
 use Rattle.std.proofs.Common.{◌≡◌, ℕ, zero, suc, ◌+◌, ◌<◌, ◌≤◌, true, false, cond, List, [], ◌∷◌, ◌++◌, length, get_or, set, sym, refl, ap, ◌∙◌, append_assoc, add-zero, arith}
-use Rattle.std.specs.List.{AllByRecursion as All}
+use Rattle.std.specs.List.{AllByRecursion}
 use Rattle.std.proofs.lemmas.List.{length_push}
 use Rattle.std.proofs.ByRecursion.{All-weaker, All-push}
 use Rattle.transaction.specs.declared.statement.Operand.{Operand}
@@ -21,7 +21,7 @@ use Rattle.lines.specs.Layout.{sources_of, is_plain, Ordered}
 use Rattle.lines.proofs.Sources.{Under, under_up, ordered_push}
 
 abbrev pub ConditionsUnder : ℕ → List (Frame Source) → Type 0
-ConditionsUnder n frames = All (λ (f : Frame Source). Under n f.on) frames
+ConditionsUnder n frames = AllByRecursion (λ (f : Frame Source). Under n f.on) frames
 
 pub conditions_up : (n m : ℕ) (frames : List (Frame Source)) → n ≤ m → ConditionsUnder n frames → ConditionsUnder m frames
 conditions_up n m frames h = All-weaker _ _ (λ f. under_up n m f.on h) frames
@@ -30,8 +30,8 @@ pub guarded_long : (frames : List (Frame Source)) (old : Source) (ls : List Line
 guarded_long [] old ls = sym (add-zero (length ls))
 guarded_long (f ∷ frames) old ls = omega (arith, guarded_long frames old (ls ++ (choose_for f (last ls) old ∷ [])), length_push ls (choose_for f (last ls) old))
 
-chooses_under : (n : ℕ) (f : Frame Source) (new old : Source) → Under n f.on → Under n new → Under n old → All (Under n) (sources_of (choose_for f new old))
-chooses_under n f new old c x y = elim f.second as (λ t. All (Under n) (sources_of (cond t (LChoose f.on old new) (LChoose f.on new old)))) [ true ↦ (c, (y, (x, tt))) | false ↦ (c, (x, (y, tt))) ]
+chooses_under : (n : ℕ) (f : Frame Source) (new old : Source) → Under n f.on → Under n new → Under n old → AllByRecursion (Under n) (sources_of (choose_for f new old))
+chooses_under n f new old c x y = elim f.second as (λ t. AllByRecursion (Under n) (sources_of (cond t (LChoose f.on old new) (LChoose f.on new old)))) [ true ↦ (c, (y, (x, tt))) | false ↦ (c, (x, (y, tt))) ]
 
 pub chooses_plain : (f : Frame Source) (new old : Source) → is_plain (choose_for f new old) ≡ true
 chooses_plain f new old = elim f.second as (λ t. is_plain (cond t (LChoose f.on old new) (LChoose f.on new old)) ≡ true) [ true ↦ refl | false ↦ refl ]
@@ -58,9 +58,9 @@ module _ (r : List Line) where
     pub ordered : Ordered ls
     pub rest : List Line
     pub front : ls ≡ r ++ rest
-    pub plain : All (λ (l : Line). is_plain l ≡ true) rest
+    pub plain : AllByRecursion (λ (l : Line). is_plain l ≡ true) rest
 
-  good_push : (ls : List Line) (l : Line) → Good ls → All (Under (length ls)) (sources_of l) → is_plain l ≡ true → Good (ls ++ (l ∷ []))
+  good_push : (ls : List Line) (l : Line) → Good ls → AllByRecursion (Under (length ls)) (sources_of l) → is_plain l ≡ true → Good (ls ++ (l ∷ []))
   good_push ls l g u p =
       record {
         ordered = ordered_push ls l g.ordered u;
@@ -90,7 +90,7 @@ module _ (r : List Line) where
     pub up_one : length d.lines ≤ length (d.lines ++ (l ∷ []))
     up_one = omega (arith, length_push d.lines l)
 
-  pub assigned_low : (t : Target) (l : Line) (d : Draft) → Low d → All (Under (length d.lines)) (sources_of l) → is_plain l ≡ true → Low (assigned t l d)
+  pub assigned_low : (t : Target) (l : Line) (d : Draft) → Low d → AllByRecursion (Under (length d.lines)) (sources_of l) → is_plain l ≡ true → Low (assigned t l d)
   assigned_low t l d w u p =
       let old : Source = source_of d.latest (target_operand t) in
       let ls : List Line = guarded d.nest old (d.lines ++ (l ∷ [])) in

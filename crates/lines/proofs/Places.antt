@@ -1,6 +1,6 @@
 -- The numbers of read lines and of write lines. Assumes nothing.
 use Rattle.std.proofs.Common.{◌≡◌, ℕ, zero, suc, ◌+◌, ◌<◌, ◌≤◌, Bool, true, false, List, [], ◌∷◌, ◌++◌, map, length, get_or, sym, refl, ap, ◌∙◌, append_assoc, append-nil, add-zero, zero-add, arith}
-use Rattle.std.specs.List.{AllByRecursion as All}
+use Rattle.std.specs.List.{AllByRecursion}
 use Rattle.std.proofs.lemmas.List.{length_push, get_or_push, get_or_append_left, get_or-map}
 use Rattle.std.proofs.lemmas.Bool.{both_ways}
 use Rattle.transaction.specs.declared.statement.Operand.{Operand}
@@ -24,7 +24,7 @@ mapped_long f [] = refl
 mapped_long f (n ∷ ns) = ap suc (mapped_long f ns)
 
 -- what f gives is such for each number
-pub mapped : {X : Type 0} (P : X → Type 0) (f : ℕ → X) (ns : List ℕ) → ((n : ℕ) → P (f n)) → All P (map f ns)
+pub mapped : {X : Type 0} (P : X → Type 0) (f : ℕ → X) (ns : List ℕ) → ((n : ℕ) → P (f n)) → AllByRecursion P (map f ns)
 mapped P f [] h = tt
 mapped P f (n ∷ ns) h = (h n, mapped P f ns h)
 

@@ -1,7 +1,7 @@
 -- The serial run of the statements and the lines worked out one after another go together. Assumes nothing.
 use Rattle.std.proofs.Common.{◌≡◌, ℕ, ◌-◌, ◌<◌, ◌≤◌, Bool, true, false, cond, not, ◌&&◌, ◌||◌, ◌⊎◌, List, [], ◌∷◌, ◌++◌, length, get_or, set, Some, sym, refl, ap, ◌∙◌, subst, ap₂, inl, inr, zero-add, arith, length-set, get_or-set_other, get_or-set_same}
 use lib.Seq.{set-get_or}
-use Rattle.std.specs.List.{AllByRecursion as All}
+use Rattle.std.specs.List.{AllByRecursion}
 use Rattle.std.proofs.lemmas.List.{length_push}
 use Rattle.std.proofs.lemmas.Bool.{and_parts, both_ways, cases_eq, eq-eqb, ltb-true, or_left, or_right}
 use Rattle.word.specs.Words.{truth, less_than, equal_to, chosen}
@@ -162,7 +162,7 @@ module _ (plus minus : ℕ → ℕ → ℕ) (v : Values) where
         agree (State s) w = table_set (val ls) d.latest.states h.values.words i s y x (omega (arith, m.updates_long, u.0)) (omega (arith, m.words_long, u.0)) e (g (State s) w)
         agree (Constant c) w = refl
 
-    assign_sim : (t : Target) (l : Line) (x : ℕ) (d : Draft) (h : Context) → Sim d h → All (Under (length d.lines)) (sources_of l) → is_plain l ≡ true → makes plus minus v (worked plus minus v d.lines) l ≡ x → Uses (target_operand t) → Sim (assigned t l d) (context (serial.assigned (Some (t, x)) h.nest h.values) h.nest)
+    assign_sim : (t : Target) (l : Line) (x : ℕ) (d : Draft) (h : Context) → Sim d h → AllByRecursion (Under (length d.lines)) (sources_of l) → is_plain l ≡ true → makes plus minus v (worked plus minus v d.lines) l ≡ x → Uses (target_operand t) → Sim (assigned t l d) (context (serial.assigned (Some (t, x)) h.nest h.values) h.nest)
     assign_sim t l x d h m w p e u =
         let old : Source = source_of d.latest (target_operand t) in
         let k : Under (length d.lines) old = m.low.latest (target_operand t) in

@@ -1,6 +1,6 @@
 -- What lines read. Assumes nothing.
 use Rattle.std.proofs.Common.{◌≡◌, ℕ, ◌<◌, ◌≤◌, true, false, ◌⊎◌, List, [], ◌∷◌, ◌++◌, length, sym, refl, ap, ◌∙◌, inl, inr, ⊎_elim, arith}
-use Rattle.std.specs.List.{AllByRecursion as All}
+use Rattle.std.specs.List.{AllByRecursion}
 use Rattle.std.proofs.lemmas.List.{length_push, get_or_push, get_or_append_left}
 use Rattle.std.proofs.lemmas.Bool.{both_ways, or_cases, or_left, or_right, eqb-true, eq-eqb, cases_lt}
 use Rattle.std.proofs.ByRecursion.{All-weaker}
@@ -22,7 +22,7 @@ under_up n m (Incoming i) h u = tt
 under_up n m (Made k) h u = omega arith
 under_up n m (Fixed c) h u = tt
 
-pub all_up : (n m : ℕ) (l : List Source) → n ≤ m → All (Under n) l → All (Under m) l
+pub all_up : (n m : ℕ) (l : List Source) → n ≤ m → AllByRecursion (Under n) l → AllByRecursion (Under m) l
 all_up n m l h u = All-weaker (Under n) (Under m) (λ a. under_up n m a h) l u
 
 -- the two ways to say it
@@ -36,15 +36,15 @@ under_is n (Incoming i) u m e = absurd (both_ways false refl e)
 under_is n (Made k) u m e = let q : k ≡ m = eqb-true k m e in omega arith
 under_is n (Fixed c) u m e = absurd (both_ways false refl e)
 
-pub all_from : (n : ℕ) (l : List Source) → ((m : ℕ) → any_of (is_line m) l ≡ true → m < n) → All (Under n) l
+pub all_from : (n : ℕ) (l : List Source) → ((m : ℕ) → any_of (is_line m) l ≡ true → m < n) → AllByRecursion (Under n) l
 all_from n [] h = tt
 all_from n (a ∷ l) h = (under_from n a (λ m e. h m (or_left (is_line m a) _ e)), all_from n l (λ m e. h m (or_right (is_line m a) _ e)))
 
-pub all_is : (n : ℕ) (l : List Source) → All (Under n) l → (m : ℕ) → any_of (is_line m) l ≡ true → m < n
+pub all_is : (n : ℕ) (l : List Source) → AllByRecursion (Under n) l → (m : ℕ) → any_of (is_line m) l ≡ true → m < n
 all_is n [] u m e = absurd (both_ways false refl e)
 all_is n (a ∷ l) u m e = ⊎_elim (under_is n a u.0 m) (all_is n l u.1 m) (or_cases (is_line m a) (any_of (is_line m) l) e)
 
-pub ordered_push : (ls : List Line) (l : Line) → Ordered ls → All (Under (length ls)) (sources_of l) → Ordered (ls ++ (l ∷ []))
+pub ordered_push : (ls : List Line) (l : Line) → Ordered ls → AllByRecursion (Under (length ls)) (sources_of l) → Ordered (ls ++ (l ∷ []))
 ordered_push ls l o u n m h e = go (cases_lt n (length ls))
   where
     go : (n < length ls) ⊎ (length ls ≤ n) → m < n

@@ -1,6 +1,6 @@
 -- A transaction's lines in a table: read lines first, write lines last, and what they read. Assumes nothing.
 use Rattle.std.proofs.Common.{◌≡◌, ℕ, ◌+◌, ◌-◌, ◌<◌, ◌≤◌, Bool, true, List, [], ◌∷◌, ◌++◌, length, get_or, take, drop, sym, refl, ap, ◌∙◌, subst, append_assoc, append-nil, arith}
-use Rattle.std.specs.List.{AllByRecursion as All}
+use Rattle.std.specs.List.{AllByRecursion}
 use Rattle.std.proofs.lemmas.List.{length-append, length_push, get_or_append_left, get_or-append_right, get_or-take, take-take, take_at, drop_at}
 use Rattle.std.proofs.ByRecursion.{All-get_or, All-from_get_or, All-append}
 use Rattle.transaction.specs.declared.statement.Operand.TheVariants.{Field, State}
@@ -27,9 +27,9 @@ pub record Laid (N : List Bool) (table : List Line) (count : ℕ) (finals update
   pub updates_below : Below (count - amount N) updates
 
 abbrev Reading : ℕ → Line → Type 0
-Reading n l = All (Under n) (sources_of l)
+Reading n l = AllByRecursion (Under n) (sources_of l)
 
-ordered_more : (ls ms : List Line) (w : ℕ) → w ≤ length ls → Ordered ls → All (Reading w) ms → Ordered (ls ++ ms)
+ordered_more : (ls ms : List Line) (w : ℕ) → w ≤ length ls → Ordered ls → AllByRecursion (Reading w) ms → Ordered (ls ++ ms)
 ordered_more ls [] w h o u = subst Ordered (sym (append-nil ls)) o
 ordered_more ls (m ∷ ms) w h o u =
     subst Ordered (append_assoc ls (m ∷ []) ms)
@@ -57,13 +57,13 @@ module _ (xs : List Statement) where
   body_long : length body.lines ≡ amount (named_of xs) + length body_low.good.rest
   body_long = ap length reads_and_rest ∙ length-append (read_lines (named_of xs)) body_low.good.rest ∙ ap (λ (n : ℕ). n + length body_low.good.rest) (reads_long (named_of xs))
 
-  writes_under : All (Reading (length body.lines)) writes
+  writes_under : AllByRecursion (Reading (length body.lines)) writes
   writes_under = mapped (Reading (length body.lines)) (write_line (updates_of xs)) (states_from 0 (named_of xs)) (λ s. (body_low.latest (State s), tt))
 
   pub all_ordered : Ordered (lines_of xs)
   all_ordered = ordered_more body.lines writes (length body.lines) (omega arith) body_low.good.ordered writes_under
 
-  body_under : All (Reading (length body.lines)) body.lines
+  body_under : AllByRecursion (Reading (length body.lines)) body.lines
   body_under = All-from_get_or (Reading (length body.lines)) body.lines (Read 0) (λ n h. all_from (length body.lines) _ (λ m e. let r : m < n = body_low.good.ordered n m h e in omega arith))
 
   all_under : ReadsBelow (length body.lines) (lines_of xs)

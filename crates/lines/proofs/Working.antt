@@ -1,6 +1,6 @@
 -- The values of lines, worked out one after another. Assumes nothing.
 use Rattle.std.proofs.Common.{◌≡◌, ℕ, zero, suc, ◌+◌, ◌<◌, List, [], ◌∷◌, ◌++◌, length, get_or, take, set, sym, refl, ap, ◌∙◌, subst, ap₂, append_assoc, append-nil, add-zero, zero-add, arith}
-use Rattle.std.specs.List.{AllByRecursion as All}
+use Rattle.std.specs.List.{AllByRecursion}
 use Rattle.std.proofs.lemmas.List.{length_push, get_or_push, get_or_append_left, get_or-take, take_more, take_more_set}
 use Rattle.word.specs.Words.{less_than, equal_to, chosen}
 use Rattle.meaning.specs.Serial.{Values}
@@ -34,7 +34,7 @@ module _ (plus minus : ℕ → ℕ → ℕ) (v : Values) where
     value_same (Made m) u = g m u
     value_same (Fixed c) u = refl
 
-    pub makes_same : (l : Line) → All (Under k) (sources_of l) → makes plus minus v vs' l ≡ makes plus minus v vs l
+    pub makes_same : (l : Line) → AllByRecursion (Under k) (sources_of l) → makes plus minus v vs' l ≡ makes plus minus v vs l
     makes_same (Read s) u = refl
     makes_same (Copy a) u = value_same a u.0
     makes_same (Add a b) u = ap₂ plus (value_same a u.0) (value_same b u.1.0)
@@ -54,7 +54,7 @@ module _ (plus minus : ℕ → ℕ → ℕ) (v : Values) where
       front ls (vs ++ (x ∷ [])) m (omega (arith, length_push vs x)) ∙ get_or_append_left vs (x ∷ []) 0 m h
 
   abbrev OrderedFrom : ℕ → List Line → Type 0
-  OrderedFrom k ls = (n : ℕ) → n < length ls → All (Under (k + n)) (sources_of (get_or ls n (Read 0)))
+  OrderedFrom k ls = (n : ℕ) → n < length ls → AllByRecursion (Under (k + n)) (sources_of (get_or ls n (Read 0)))
 
   each : (ls : List Line) (vs : List ℕ) → OrderedFrom (length vs) ls → (n : ℕ) → n < length ls → get_or (worked_on plus minus v ls vs) (length vs + n) 0 ≡ makes plus minus v (worked_on plus minus v ls vs) (get_or ls n (Read 0))
   each [] vs o n h = absurd (omega arith)
@@ -62,11 +62,11 @@ module _ (plus minus : ℕ → ℕ → ℕ) (v : Values) where
       let x : ℕ = makes plus minus v vs l in
       ap (λ (k : ℕ). get_or (worked_on plus minus v (l ∷ ls) vs) k 0) (add-zero (length vs))
       ∙ front ls (vs ++ (x ∷ [])) (length vs) (omega (arith, length_push vs x)) ∙ get_or_push vs x 0 (length vs) refl
-      ∙ sym (makes_same (length vs) vs (worked_on plus minus v (l ∷ ls) vs) (front (l ∷ ls) vs) l (subst (λ (k : ℕ). All (Under k) (sources_of l)) (add-zero (length vs)) (o 0 (omega arith))))
+      ∙ sym (makes_same (length vs) vs (worked_on plus minus v (l ∷ ls) vs) (front (l ∷ ls) vs) l (subst (λ (k : ℕ). AllByRecursion (Under k) (sources_of l)) (add-zero (length vs)) (o 0 (omega arith))))
   each (l ∷ ls) vs o (suc n) h =
       let x : ℕ = makes plus minus v vs l in
       let q : length vs + suc n ≡ length (vs ++ (x ∷ [])) + n = omega (arith, length_push vs x) in
-      ap (λ (k : ℕ). get_or (worked_on plus minus v (l ∷ ls) vs) k 0) q ∙ each ls (vs ++ (x ∷ [])) (λ m k. let r : length vs + suc m ≡ length (vs ++ (x ∷ [])) + m = omega (arith, length_push vs x) in subst (λ (j : ℕ). All (Under j) (sources_of (get_or ls m (Read 0)))) r (o (suc m) (omega arith))) n (omega arith)
+      ap (λ (k : ℕ). get_or (worked_on plus minus v (l ∷ ls) vs) k 0) q ∙ each ls (vs ++ (x ∷ [])) (λ m k. let r : length vs + suc m ≡ length (vs ++ (x ∷ [])) + m = omega (arith, length_push vs x) in subst (λ (j : ℕ). AllByRecursion (Under j) (sources_of (get_or ls m (Read 0)))) r (o (suc m) (omega arith))) n (omega arith)
 
   pub satisfied : (ls : List Line) → Ordered ls → Satisfied plus minus v ls (worked plus minus v ls)
   satisfied ls o n h =

@@ -3,7 +3,7 @@ use Rattle.std.proofs.Common.{◌≡◌, ℕ, ◌+◌, ◌*◌, ◌^◌, ◌<◌
 use Rattle.std.proofs.lemmas.Fmt.{decimal_is_IsNumeral}
 use Rattle.std.proofs.lemmas.Bool.{and_parts, cond-true, lt-ltb}
 use Rattle.std.proofs.lemmas.Bool.Decides.{nat_tests}
-use Rattle.std.specs.List.{flat_map, AllByRecursion as All}
+use Rattle.std.specs.List.{flat_map, AllByRecursion}
 use Rattle.std.specs.Str.Parse.{AllDigits, IsNumeral, digits_value, digits_value_after}
 use Rattle.std.specs.Char.{digit_value}
 use Rattle.text.specs.declared.step.Step.TheVariants.{Onward, Whole}
@@ -70,14 +70,14 @@ module _ (gap behind : List ℕ) (blank-gap : blanks gap ≡ true) (some-gap : 0
   -- what follows a number
   read_more :
       (items : List ℕ) (n : ℕ) (numerals : List (List ℕ))
-      → All (λ ds. IsNumeral 10 ds × (digits_value 10 ds < 2 ^ 32)) numerals
+      → AllByRecursion (λ ds. IsNumeral 10 ds × (digits_value 10 ds < 2 ^ 32)) numerals
       → Gives decimal_step (Some n) items (flat_map (λ next. gap ++ next) numerals ++ (behind ++ 32 ∷ [])) (decoded (items ++ n ∷ map (digits_value 10) numerals))
   read_more items n [] each = last_number n behind blank-behind
   read_more items n (ds ∷ numerals) each =
       let more = read_numeral ds each.0.0 each.0.1 (read_more (items ++ n ∷ []) (digits_value 10 ds) numerals each.1) in
       regrouped (simp append_assoc) (ap decoded (append_assoc items (n ∷ []) (map (digits_value 10) (ds ∷ numerals)))) (past_number n gap blank-gap some-gap more)
 
-  read_numerals : (numerals : List (List ℕ)) → All (λ ds. IsNumeral 10 ds × (digits_value 10 ds < 2 ^ 32)) numerals → Gives decimal_step None [] (spaced gap numerals ++ (behind ++ 32 ∷ [])) (decoded (map (digits_value 10) numerals))
+  read_numerals : (numerals : List (List ℕ)) → AllByRecursion (λ ds. IsNumeral 10 ds × (digits_value 10 ds < 2 ^ 32)) numerals → Gives decimal_step None [] (spaced gap numerals ++ (behind ++ 32 ∷ [])) (decoded (map (digits_value 10) numerals))
   read_numerals [] each = to_end skips behind blank-behind
   read_numerals (ds ∷ numerals) each = regrouped (simp append_assoc) refl (read_numeral ds each.0.0 each.0.1 (read_more [] (digits_value 10 ds) numerals each.1))
 
@@ -85,7 +85,7 @@ pub numerals_read : NumeralsRead
 numerals_read before gap behind numerals blank-before blank-gap some-gap blank-behind each =
     simp append_assoc ((past_blanks skips before blank-before (read_numerals gap behind blank-gap some-gap blank-behind numerals each)).at 0)
 
-written : (words : List ℕ) → All (λ w. w < 2 ^ 32) words → All (λ ds. IsNumeral 10 ds × (digits_value 10 ds < 2 ^ 32)) (map decimal words) × (map (digits_value 10) (map decimal words) ≡ words)
+written : (words : List ℕ) → AllByRecursion (λ w. w < 2 ^ 32) words → AllByRecursion (λ ds. IsNumeral 10 ds × (digits_value 10 ds < 2 ^ 32)) (map decimal words) × (map (digits_value 10) (map decimal words) ≡ words)
 written [] small = (tt, refl)
 written (w ∷ words) small =
     let reads = decimal_is_IsNumeral w (omega (arith, small.0)) in

@@ -2,7 +2,7 @@
 use Rattle.std.proofs.Common.{◌≡◌, ℕ, ◌+◌, ◌*◌, ◌/◌, ◌%◌, ◌^◌, ◌<◌, Bool, true, false, cond, List, [], ◌∷◌, ◌++◌, map, length, Some, None, sym, refl, ap, ◌∙◌, append_assoc, append-nil, arith}
 use lib.Bits.{bit_or, or_shifted}
 use Rattle.std.proofs.lemmas.Bool.Decides.{nat_tests}
-use Rattle.std.specs.List.{flat_map, AllByRecursion as All}
+use Rattle.std.specs.List.{flat_map, AllByRecursion}
 use Rattle.std.specs.Str.Parse.{AllDigits, digits_value}
 use Rattle.std.specs.Char.{digit_value}
 use Rattle.text.specs.declared.step.Step.TheVariants.{Onward, Whole}
@@ -48,14 +48,14 @@ module _ (gap behind : List ℕ) (blank-gap : blanks gap ≡ true) (blank-behind
   -- the pairs past the first
   read_more :
       (items : List ℕ) (pairs : List (List ℕ))
-      → All (λ ds. AllDigits 16 ds × (length ds ≡ 2)) pairs
+      → AllByRecursion (λ ds. AllDigits 16 ds × (length ds ≡ 2)) pairs
       → Gives hex_step None items (flat_map (λ next. gap ++ next) pairs ++ (behind ++ 32 ∷ [])) (decoded (items ++ map (digits_value 16) pairs))
   read_more items [] each = rw append-nil (to_end hex_skips behind blank-behind)
   read_more items (ds ∷ pairs) each =
       let more = read_pair ds each.0.0 each.0.1 (read_more (items ++ digits_value 16 ds ∷ []) pairs each.1) in
       regrouped (simp append_assoc) (ap decoded (append_assoc items (digits_value 16 ds ∷ []) (map (digits_value 16) pairs))) (past_blanks hex_skips gap blank-gap more)
 
-  read_pairs : (pairs : List (List ℕ)) → All (λ ds. AllDigits 16 ds × (length ds ≡ 2)) pairs → Gives hex_step None [] (spaced gap pairs ++ (behind ++ 32 ∷ [])) (decoded (map (digits_value 16) pairs))
+  read_pairs : (pairs : List (List ℕ)) → AllByRecursion (λ ds. AllDigits 16 ds × (length ds ≡ 2)) pairs → Gives hex_step None [] (spaced gap pairs ++ (behind ++ 32 ∷ [])) (decoded (map (digits_value 16) pairs))
   read_pairs [] each = to_end hex_skips behind blank-behind
   read_pairs (ds ∷ pairs) each = regrouped (simp append_assoc) refl (read_pair ds each.0.0 each.0.1 (read_more (digits_value 16 ds ∷ []) pairs each.1))
 
@@ -63,7 +63,7 @@ pub pairs_read : PairsRead
 pairs_read before gap behind pairs blank-before blank-gap blank-behind each =
     simp append_assoc ((past_blanks hex_skips before blank-before (read_pairs gap behind blank-gap blank-behind pairs each)).at 0)
 
-written : (big : Bool) (bytes : List ℕ) → All (λ b. b < 2 ^ 8) bytes → All (λ ds. AllDigits 16 ds × (length ds ≡ 2)) (map (hex_pair big) bytes) × (map (digits_value 16) (map (hex_pair big) bytes) ≡ bytes)
+written : (big : Bool) (bytes : List ℕ) → AllByRecursion (λ b. b < 2 ^ 8) bytes → AllByRecursion (λ ds. AllDigits 16 ds × (length ds ≡ 2)) (map (hex_pair big) bytes) × (map (digits_value 16) (map (hex_pair big) bytes) ≡ bytes)
 written big [] small = (tt, refl)
 written big (b ∷ bytes) small =
     let high : b / 16 < 16 = omega (arith, small.0) in

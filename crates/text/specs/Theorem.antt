@@ -1,6 +1,6 @@
 -- What the lines that write bytes or words decode to, and which column is told of any other. Assumes nothing.
 use Rattle.std.specs.Prelude.{◌≡◌, ℕ, ◌+◌, ◌/◌, ◌%◌, ◌^◌, ◌<◌, ◌≤◌, Bool, true, cond, ◌&&◌, List, [], ◌∷◌, ◌++◌, map, length, take, decimal}
-use Rattle.std.specs.List.{flat_map, AllByRecursion as All}
+use Rattle.std.specs.List.{flat_map, AllByRecursion}
 use Rattle.std.specs.Str.Parse.{AllDigits, IsNumeral, digits_value}
 use Rattle.std.specs.Char.{digit_char, to_ascii_uppercase}
 use Rattle.text.specs.Bytes.{blank}
@@ -33,12 +33,12 @@ PairsRead =
     → blanks before ≡ true
     → blanks gap ≡ true
     → blanks behind ≡ true
-    → All (λ ds. AllDigits 16 ds × (length ds ≡ 2)) pairs
+    → AllByRecursion (λ ds. AllDigits 16 ds × (length ds ≡ 2)) pairs
     → hexadecimal (before ++ (spaced gap pairs ++ behind)) ≡ decoded (map (digits_value 16) pairs)
 
 -- a line that writes bytes as two digits each, with single spaces or nothing between them, is decoded to those bytes
 abbrev pub HexReadsBack : Type 0
-HexReadsBack = (big space : Bool) (bytes : List ℕ) → All (λ b. b < 2 ^ 8) bytes → hexadecimal (spaced (cond space (32 ∷ []) []) (map (hex_pair big) bytes)) ≡ decoded bytes
+HexReadsBack = (big space : Bool) (bytes : List ℕ) → AllByRecursion (λ b. b < 2 ^ 8) bytes → hexadecimal (spaced (cond space (32 ∷ []) []) (map (hex_pair big) bytes)) ≡ decoded bytes
 
 -- numerals in a row, with blanks between them: each is read as its value, leading zeros or not, where that is a word
 abbrev pub NumeralsRead : Type 0
@@ -48,12 +48,12 @@ NumeralsRead =
     → blanks gap ≡ true
     → 0 < length gap
     → blanks behind ≡ true
-    → All (λ ds. IsNumeral 10 ds × (digits_value 10 ds < 2 ^ 32)) numerals
+    → AllByRecursion (λ ds. IsNumeral 10 ds × (digits_value 10 ds < 2 ^ 32)) numerals
     → decimal_words (before ++ (spaced gap numerals ++ behind)) ≡ decoded (map (digits_value 10) numerals)
 
 -- a line that writes words in decimal, with single spaces between them, is decoded to those words
 abbrev pub DecimalsReadBack : Type 0
-DecimalsReadBack = (words : List ℕ) → All (λ w. w < 2 ^ 32) words → decimal_words (spaced (32 ∷ []) (map decimal words)) ≡ decoded words
+DecimalsReadBack = (words : List ℕ) → AllByRecursion (λ w. w < 2 ^ 32) words → decimal_words (spaced (32 ∷ []) (map decimal words)) ≡ decoded words
 
 -- some line that begins so is decoded
 abbrev pub Begins : (List ℕ → Decoded ℕ) → List ℕ → Type 0

@@ -1,7 +1,7 @@
 -- Of the packets of sampling every tenth is marked. Assumes nothing.
 use Rattle.std.proofs.Common.{◌≡◌, ℕ, zero, suc, ◌+◌, ◌%◌, ◌<◌, ◌≤◌, Bool, true, false, cond, not, eqb, List, [], ◌∷◌, map, length, get_or, sym, refl, ap, ◌∙◌, subst, mod-lt, mod-eq_of_lt, arith}
 use native.Mathlib.Nat.{add-mod_right}
-use Rattle.std.specs.List.{AllByRecursion as All}
+use Rattle.std.specs.List.{AllByRecursion}
 use Rattle.std.proofs.ByRecursion.{All-get_or, All-append}
 use Rattle.std.proofs.lemmas.List.{ext_get_or, get_or-map, length-map}
 use Rattle.std.proofs.lemmas.Bool.{eqb-true, eqb-false}
@@ -29,16 +29,16 @@ use Rattle.worked_examples.proofs.Running.{sampling_program}
 abbrev Long : ℕ → List ℕ → Type 0
 Long w fs = length fs ≡ w
 
-fed_by_lem : (w : ℕ) (fs : List ℕ) (a : Answer Outcome) → length fs ≡ w → All (Long w) (fed_by (Feed fs) a)
+fed_by_lem : (w : ℕ) (fs : List ℕ) (a : Answer Outcome) → length fs ≡ w → AllByRecursion (Long w) (fed_by (Feed fs) a)
 fed_by_lem w fs (good o) e = (e, tt)
 fed_by_lem w fs (bad r) e = tt
 
-fed_if : (w : ℕ) (fs : List ℕ) (b : Bool) (r : Refusal) (a : Answer Outcome) → eqb (length fs) w ≡ b → All (Long w) (fed_by (Feed fs) (refused_if (not b) r a))
+fed_if : (w : ℕ) (fs : List ℕ) (b : Bool) (r : Refusal) (a : Answer Outcome) → eqb (length fs) w ≡ b → AllByRecursion (Long w) (fed_by (Feed fs) (refused_if (not b) r a))
 fed_if w fs true r a e = fed_by_lem w fs a (eqb-true (length fs) w e)
 fed_if w fs false r a e = tt
 
 module _ (shape : Shape) (one : Values → Values) where
-  all_long : (cs : List Call) (b : List Packet) → All (Long shape.width) (fed_in (exchanges cs (answers shape one cs b)))
+  all_long : (cs : List Call) (b : List Packet) → AllByRecursion (Long shape.width) (fed_in (exchanges cs (answers shape one cs b)))
   all_long [] b = tt
   all_long (Feed fs ∷ cs) b =
       All-append (Long shape.width) (fed_by (Feed fs) (answer shape one (Feed fs) b)) _ (fed_if shape.width fs (eqb (length fs) shape.width) _ _ refl) (all_long cs (turned shape one (Feed fs) b))
@@ -86,7 +86,7 @@ counts_on n k false e h =
     (omega arith, ap {B = ℕ} (λ (m : ℕ). m % 10) on)
 
 -- the words after n packets that meet the word k
-words_after : (packets : List (List ℕ)) → All (Long 2) packets → (n k : ℕ) → k < 10 → n ≤ length packets → words_from sampled (k ∷ []) n packets ≡ (k + n) % 10 ∷ []
+words_after : (packets : List (List ℕ)) → AllByRecursion (Long 2) packets → (n k : ℕ) → k < 10 → n ≤ length packets → words_from sampled (k ∷ []) n packets ≡ (k + n) % 10 ∷ []
 words_after [] all n k h le =
     let same : k + n ≡ k = omega arith in
     ap {B = List ℕ} (λ (m : ℕ). m ∷ []) (sym (ap {B = ℕ} (λ (m : ℕ). m % 10) same ∙ mod-eq_of_lt h))
@@ -100,7 +100,7 @@ words_after (fs ∷ packets) all (suc n) k h le =
     ∙ ap {B = List ℕ} (λ (m : ℕ). m ∷ []) on.1
 
 -- packet n, counted from 0
-leaves_marked : (packets : List (List ℕ)) → All (Long 2) packets → (n : ℕ) → n < length packets → get_or (leaving sampled 1 (suc n) packets) 0 0 ≡ equal_to (n % 10) 9
+leaves_marked : (packets : List (List ℕ)) → AllByRecursion (Long 2) packets → (n : ℕ) → n < length packets → get_or (leaving sampled 1 (suc n) packets) 0 0 ≡ equal_to (n % 10) 9
 leaves_marked packets all n h =
     let first : 0 + n ≡ n = omega arith in
     let words : words_from sampled (0 ∷ []) n packets ≡ n % 10 ∷ [] = words_after packets all n 0 (omega arith) (omega arith) ∙ ap {B = List ℕ} (λ (m : ℕ). m % 10 ∷ []) first in
@@ -113,10 +113,10 @@ every_tenth ran plan x cs rs m served n h =
     let program = program_same wrap.plus wrap.minus ran sampling_image sampling_program sampling_table refl sampling_exactly 30 10 8 plan x in
     let fed : List (List ℕ) = fed_in (exchanges cs rs) in
     let (low, fields) = served.order n h in
-    let long : All (Long plan.transaction.fields) fed = subst (λ (qs : List (Answer Outcome)). All (Long plan.transaction.fields) (fed_in (exchanges cs qs))) (sym served.book) (all_long (shape_of plan) (one_alone wrap.plus wrap.minus (program_of plan.transaction)) cs []) in
+    let long : AllByRecursion (Long plan.transaction.fields) fed = subst (λ (qs : List (Answer Outcome)). AllByRecursion (Long plan.transaction.fields) (fed_in (exchanges cs qs))) (sym served.book) (all_long (shape_of plan) (one_alone wrap.plus wrap.minus (program_of plan.transaction)) cs []) in
     ap {B = ℕ} (λ (fs : List ℕ). get_or fs 0 0) fields
     ∙ ap {B = ℕ} (λ (p : Program). get_or (leaving (one_alone wrap.plus wrap.minus p) p.states (suc n) fed) 0 0) program
-    ∙ leaves_marked fed (subst (λ (p : Program). All (Long p.fields) fed) program long) n low
+    ∙ leaves_marked fed (subst (λ (p : Program). AllByRecursion (Long p.fields) fed) program long) n low
 
 -- the first ten
 abbrev marks : List ℕ
