@@ -1,7 +1,7 @@
 #!/usr/bin/env bash
 # bench/compile.sh [RUNS [COPIES]]: how long an image takes to compile, with the reading of its line and the writing of the answer.
 #
-# Runs the program verdicts, built by `rt check verdicts`, on files of COPIES equal lines (400), RUNS times each (15), after one
+# Runs the program verdicts, built by `./run verdicts`, on files of COPIES equal lines (400), RUNS times each (15), after one
 # run that is not counted. For each image it prints the answer, and the best and the median time in microseconds for one line:
 # that of the whole run, less the median time of a run on no input, divided by COPIES.
 . "$(dirname "$0")/timing.sh"

@@ -1,7 +1,7 @@
 #!/usr/bin/env bash
 # bench/ticks.sh [RUNS [TICKS]]: how long a tick of a full pipeline takes, with the text of its calls and without.
 #
-# Runs the program replay, built by `rt check replay`, on three files, RUNS times each (3), after one run that is not counted.
+# Runs the program replay, built by `./run replay`, on three files, RUNS times each (3), after one run that is not counted.
 #
 #   full   starts the sampling transaction, of five stages, fills its six places, and then has TICKS times (1,000,000) a take,
 #          a tick and a feed, so that in each tick five packets move, every stage works and the atom runs

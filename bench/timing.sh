@@ -5,9 +5,9 @@ work=$(mktemp -d) || exit 1
 trap 'rm -rf "$work"' EXIT
 
 program() {
-    program=target/bin/$1
+    program=crates/$1/out/$1
     if [ ! -x "$program" ]; then
-        echo "bench: no $program: run rt check $1 first" >&2
+        echo "bench: no $program: run ./run $1 </dev/null first" >&2
         exit 1
     fi
 }
