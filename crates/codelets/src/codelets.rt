@@ -1,5 +1,5 @@
 // The codelets of the named states.
-ghost use Rattle.std.specs.Prelude.{◌≡◌, ℕ, ◌<◌, false, not, ◌&&◌, length, get_or, if◌then◌else◌, Some, None, Ok, Err, ◌==◌, slice_index_or};
+ghost use Rattle.std.specs.Prelude.{◌≡◌, ℕ, ◌<◌, false, not, ◌&&◌, get_or, if◌then◌else◌, Some, None, Ok, Err, ◌==◌, slice_index_or};
 ghost use Rattle.graph.specs.Rounds.{some_below};
 ghost use Rattle.codelets.specs.declared.fault.CodeletFault.TheVariants.{TwoStates};
 ghost use Rattle.codelets.specs.Codelets.{is_named, write_of, meets, in_codelet, is_owner, Owned, Alone, Coded, Smallest};

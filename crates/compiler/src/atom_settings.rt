@@ -1,11 +1,7 @@
 // The settings of a transaction's atoms.
-ghost use Rattle.std.specs.Prelude.{◌≡◌, ℕ, ◌<◌, ◌≤◌, true, false, Some, None, Ok, Err, slice_set};
-ghost use Rattle.codelets.specs.Codelets.{is_named};
-ghost use Rattle.resolving.specs.Sameness.{undecided};
+ghost use Rattle.std.specs.Prelude.{◌≡◌, ◌<◌, ◌≤◌, false, Some, None, Ok, Err, slice_set};
 ghost use Rattle.updates.specs.Inner.{update_of};
-ghost use Rattle.atoms.specs.Rightness.{Right};
 ghost use Rattle.plans.specs.Updates.{codelet_of};
-ghost use Rattle.compiler.specs.Verdict.{untaken};
 ghost use Rattle.compiler.specs.Settings.{Short, Fitted, Set};
 
 use crate::fault::AtomFault;

@@ -1,5 +1,5 @@
 // A reader over borrowed image bytes that remembers its offset.
-ghost use Rattle.std.specs.Prelude.{◌≡◌, ℕ, ◌+◌, ◌*◌, ◌^◌, ◌<◌, ◌≤◌, ◌&&◌, [], length, IfOk, if◌then◌else◌, ◌==◌, nat_lt};
+ghost use Rattle.std.specs.Prelude.{◌≡◌, ◌+◌, ◌*◌, ◌^◌, ◌<◌, ◌≤◌, ◌&&◌, [], length, IfOk, if◌then◌else◌, ◌==◌, nat_lt};
 ghost use Rattle.transaction.specs.Frames.{frames_of, elses};
 ghost use Rattle.transaction.specs.WellFormed.{fits, after};
 ghost use Rattle.image.specs.Reading.{answered, ending, number_at, within_at, kind_at, place_at, target_at, operand_at, pair_at, rest_at, statements_at, program_at, front, said, image_says, told_by};

@@ -1,7 +1,7 @@
 // The graph of a transaction's lines.
 ghost use Rattle.std.specs.Prelude.{◌≡◌};
 ghost use Rattle.lines.specs.Layout.{is_line, reads_line, is_plain};
-ghost use Rattle.line_graph.specs.Edges.{writes_to, pairs, edge};
+ghost use Rattle.line_graph.specs.Edges.{pairs, edge};
 
 use graph::Graph;
 use lines::{Line, Lines, Source};

@@ -1,6 +1,5 @@
 // The lines of a transaction.
-ghost use Rattle.std.specs.Prelude.{◌≡◌, ℕ, ◌+◌, ◌-◌, ◌≤◌, length, take, drop, slice_index_or};
-ghost use Rattle.lines.specs.declared.line.Line.TheVariants.{Read};
+ghost use Rattle.std.specs.Prelude.{◌≡◌, ◌+◌, ◌-◌, ◌≤◌, length, take, drop};
 ghost use Rattle.lines.specs.Named.{amount};
 ghost use Rattle.lines.specs.Build.{read_lines, write_lines, numbered};
 ghost use Rattle.lines.specs.Layout.{Ordered, ReadsBelow, Below, Plain};

@@ -1,5 +1,5 @@
 // Nodes and their rows.
-ghost use Rattle.std.specs.Prelude.{◌≡◌, ℕ, ◌<◌, false, length, None, slice_index, slice_index_or};
+ghost use Rattle.std.specs.Prelude.{◌≡◌, ℕ, ◌<◌, false, None, slice_index, slice_index_or};
 ghost use Rattle.echoes.specs.Echoes.{echo};
 ghost use Rattle.rows.specs.Sorts.{is_read, sort_of};
 ghost use Rattle.rows.specs.Rows.{row_of};

@@ -1,5 +1,5 @@
 // The rows of nodes, by passes that raise numbers until none has to rise.
-ghost use Rattle.std.specs.Prelude.{◌≡◌, ℕ, ◌<◌, length, if◌then◌else◌, slice_index};
+ghost use Rattle.std.specs.Prelude.{◌≡◌, ℕ, ◌<◌, if◌then◌else◌, slice_index};
 ghost use Rattle.line_graph.specs.Edges.{line_at};
 ghost use Rattle.codelets.specs.Codelets.{in_codelet};
 ghost use Rattle.rows.specs.Makers.{makes};

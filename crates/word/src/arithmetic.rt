@@ -1,5 +1,5 @@
 // How two words are added and subtracted.
-ghost use Rattle.std.specs.Prelude.{◌≡◌, ℕ, ◌+◌, ◌-◌, ◌%◌, ◌^◌, ◌<◌, min};
+ghost use Rattle.std.specs.Prelude.{◌≡◌, ℕ, ◌+◌, ◌-◌, ◌%◌, ◌^◌, min};
 ghost use Rattle.word.specs.Words.{Word, top};
 ghost use Rattle.std.proofs.Common.{rules};
 
