@@ -5,7 +5,7 @@ use Rattle.meaning.specs.Serial.{Values}
 use Rattle.book.specs.Book.{Shape}
 use Rattle.book.specs.Pipeline.{Pipeline}
 
--- each is a word; past the end `get_or` gives 0, which is one
+-- each is a word; past the end `slice_index` gives 0, which is one
 abbrev pub AllWords : List ℕ → Type 0
 AllWords xs = (i : ℕ) → Word (slice_index xs i)
 

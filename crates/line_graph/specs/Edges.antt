@@ -1,12 +1,12 @@
 -- The graph of a transaction's lines. Assumes nothing.
-use Rattle.std.specs.Prelude.{Bool, false, ◌||◌, ℕ, eqb, get_or}
+use Rattle.std.specs.Prelude.{ℕ, Bool, false, ◌||◌, ◌==◌, slice_index_or}
 use Rattle.lines.specs.declared.line.Line.{Line}
 use Rattle.lines.specs.declared.line.Line.TheVariants.{Read, Copy, Add, Sub, Less, Equal, Choose, Write}
 use Rattle.lines.specs.declared.lines.Lines.{Lines}
 use Rattle.lines.specs.Layout.{reads_line}
 
 abbrev pub line_at : Lines → ℕ → Line
-line_at r n = get_or r.lines n (Read 0)
+line_at r n = slice_index_or r.lines n (Read 0)
 
 -- whether line m is read by line n
 abbrev pub read_by : Lines → ℕ → ℕ → Bool
@@ -21,7 +21,7 @@ writes_to s (Sub a b) = false
 writes_to s (Less a b) = false
 writes_to s (Equal a b) = false
 writes_to s (Choose c a b) = false
-writes_to s (Write t a) = eqb t s
+writes_to s (Write t a) = t == s
 
 -- whether the first is a state's read line and the second its write line
 abbrev pub pairs : Line → Line → Bool
