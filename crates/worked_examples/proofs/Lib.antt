@@ -6,3 +6,4 @@ pub mod Judging
 pub mod Shapes
 pub mod Running
 pub mod Tenth
+pub mod Told

@@ -1,5 +1,6 @@
 -- The images of the examples, and the tables of their lines. Assumes nothing.
-use Rattle.std.specs.Prelude.{ℕ, List, [], ◌∷◌}
+use Rattle.std.specs.Prelude.{ℕ, List, [], ◌∷◌, Ok, Err, Result}
+use Rattle.transaction.specs.declared.refusal.Refusal.{Refusal}
 use Rattle.transaction.specs.WellFormed.{Program}
 use Rattle.image.specs.Reading.{Answer, good, bad, image_says}
 use Rattle.lines.specs.declared.lines.Lines.{Lines}
@@ -33,3 +34,8 @@ HoldsLines (bad f) r = ⊥
 -- a table that holds the lines of an image
 abbrev pub LinesOf : List ℕ → Lines → Type 0
 LinesOf image r = HoldsLines (image_says image) r
+
+-- what is told of a compiled image, as the verdict has it
+abbrev pub answered : Result ℕ Refusal → Answer ℕ
+answered (Ok n) = good n
+answered (Err f) = bad f

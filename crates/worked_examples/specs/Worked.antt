@@ -1,8 +1,9 @@
 -- What the definitions say of the examples. Assumes nothing.
-use Rattle.std.specs.Prelude.{◌≡◌, ℕ, Bool, List, [], ◌∷◌, map, Some, None, filter}
+use Rattle.std.specs.Prelude.{◌≡◌, ℕ, Bool, List, [], ◌∷◌, map, Some, None, filter, Result}
 use Rattle.std.specs.List.{range_with_len}
 use Rattle.word.specs.contracts.arithmetic.WrapArithmetic.TheImpl.{ghosts as wrap}
 use Rattle.word.specs.contracts.arithmetic.ClampArithmetic.TheImpl.{ghosts as clamp}
+use Rattle.transaction.specs.declared.refusal.Refusal.{Refusal}
 use Rattle.transaction.specs.Faults.{refusal}
 use Rattle.image.specs.Reading.{Answer, good, bad}
 use Rattle.lines.specs.declared.lines.Lines.{Lines}
@@ -20,7 +21,7 @@ use Rattle.atoms.specs.Kinds.{read_write_takes, add_takes, subtract_takes}
 use Rattle.book.specs.Calls.Call.{Feed, Tick, Take, Peek}
 use Rattle.book.specs.Calls.Outcome.{done, packet, word}
 use Rattle.compiler.specs.Verdict.{nodes_of, Verdict}
-use Rattle.worked_examples.specs.Images.{sampling_image, crossed_image, chained_image, countdown_image, empty_image, LinesOf}
+use Rattle.worked_examples.specs.Images.{sampling_image, crossed_image, chained_image, countdown_image, empty_image, LinesOf, answered}
 use Rattle.worked_examples.specs.Runs.{PlanShaped, EveryPlan, EveryServedRun, CallsAnswered, TenthsMarked, TenthMarked}
 
 -- the lines that pass the test
@@ -47,6 +48,10 @@ pub record ChainedRows (r : Lines) : Type 0 where
 -- this is the verdict on an image over an atom
 abbrev pub VerdictIs : ℕ → (Codelet → Decided → Source → Bool) → List ℕ → ℕ → ℕ → ℕ → Answer ℕ → Type 0
 VerdictIs len takes image d p q told = (a : Answer ℕ) → Verdict len takes image d p q a → a ≡ told
+
+-- what is told of an image is the verdict on it over choice over choice over subtract
+abbrev pub ChoicesVerdict : List ℕ → ℕ → ℕ → ℕ → Result ℕ Refusal → Type 0
+ChoicesVerdict image d p q r = Verdict (choice_length (choice_length 3)) (choice_takes (choice_takes subtract_takes)) image d p q (answered r)
 
 -- and this over choice over choice over subtract
 abbrev pub ChoicesVerdictIs : List ℕ → ℕ → ℕ → ℕ → Answer ℕ → Type 0

@@ -1,0 +1,6 @@
+use Rattle.worked_examples.proofs.Judging.{sampling_shallow}
+use Rattle.worked_examples.proofs.Told.{told_bad}
+use Rattle.worked_examples.proofs.compiled.sampling_in_four_stages.Goals as goal
+
+pub returns : goal.returns
+returns c = record { verdict = c.stages.ensures; told = told_bad _ _ (sampling_shallow _ c.stages.ensures) }

@@ -1,0 +1,6 @@
+use Rattle.worked_examples.proofs.Judging.{sampling_narrow}
+use Rattle.worked_examples.proofs.Told.{told_good}
+use Rattle.worked_examples.proofs.compiled.sampling_in_narrow_stages.Goals as goal
+
+pub returns : goal.returns
+returns c = record { verdict = c.stages.ensures; told = told_good _ _ (sampling_narrow _ c.stages.ensures) }
