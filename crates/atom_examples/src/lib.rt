@@ -6,8 +6,10 @@ mod tests {
     use atoms::{Add, Atom, ReadWrite, Subtract};
     use choice::Choice;
     use lines::{Line, Source};
-    use resolving::{Codelet, Decided, Packet};
+    use resolving::{Codelet, Decided, Packet, Update};
     use word::{Clamp, Wrap};
+
+    // The two codelets are written out, since they have no line in common but the first.
 
     // The codelet of a counter that restarts at 0 after 9: if s0 = 9 then s0 := 0 else s0 := s0 + 1, in a transaction
     // that also sets a field in each branch.
@@ -49,6 +51,15 @@ mod tests {
         }
     }
 
+    // The codelet's update to what line n makes, with no condition decided.
+    fn update_to(codelet: &Codelet, n: u8) -> Update {
+        Update {
+            codelet,
+            decided: Decided::none(),
+            source: Source::Line(n),
+        }
+    }
+
     // A packet for which line 4, which stands outside the codelet, made 0.
     fn packet() -> Packet {
         Packet {
@@ -60,18 +71,17 @@ mod tests {
     #[test]
     fn sampling_needs_a_choice_over_add(rt: HostRuntime) {
         let codelet = sampling();
-        let none = Decided::none();
-        let update = Source::Line(9);
-        assert!(rt; !Add(Wrap).class(&codelet, &none, update));
-        assert!(rt; !Choice(ReadWrite(Wrap)).class(&codelet, &none, update));
-        assert!(rt; Choice(Add(Wrap)).class(&codelet, &none, update));
+        let update = update_to(&codelet, 9);
+        assert!(rt; !Add(Wrap).class(&update));
+        assert!(rt; !Choice(ReadWrite(Wrap)).class(&update));
+        assert!(rt; Choice(Add(Wrap)).class(&update));
     }
 
     #[test]
     fn sampling_counts_to_nine(rt: HostRuntime) {
         let atom = Choice(Add(Wrap));
         let mut setting = [0; 64];
-        assert!(rt; atom.fit(&sampling(), &Decided::none(), Source::Line(9), &mut setting));
+        assert!(rt; atom.fit(&update_to(&sampling(), 9), &mut setting));
         assert_eq!(rt; atom.run(&setting, 3, &packet()), 4);
         assert_eq!(rt; atom.run(&setting, 9, &packet()), 0);
     }
@@ -79,14 +89,7 @@ mod tests {
     #[test]
     fn a_refusal_writes_nothing(rt: HostRuntime) {
         let mut setting = [5; 64];
-        assert!(rt;
-            !Choice(ReadWrite(Wrap)).fit(
-                &sampling(),
-                &Decided::none(),
-                Source::Line(9),
-                &mut setting,
-            )
-        );
+        assert!(rt; !Choice(ReadWrite(Wrap)).fit(&update_to(&sampling(), 9), &mut setting));
         assert_eq!(rt; setting, [5; 64]);
     }
 
@@ -97,11 +100,12 @@ mod tests {
 
     #[test]
     fn below_zero_under_wrap_and_clamp(rt: HostRuntime) {
-        let none = Decided::none();
+        let codelet = countdown();
+        let update = update_to(&codelet, 1);
         let mut setting = [0; 64];
-        assert!(rt; Subtract(Wrap).fit(&countdown(), &none, Source::Line(1), &mut setting));
+        assert!(rt; Subtract(Wrap).fit(&update, &mut setting));
         assert_eq!(rt; Subtract(Wrap).run(&setting, 0, &packet()), 4_294_967_295);
-        assert!(rt; Subtract(Clamp).fit(&countdown(), &none, Source::Line(1), &mut setting));
+        assert!(rt; Subtract(Clamp).fit(&update, &mut setting));
         assert_eq!(rt; Subtract(Clamp).run(&setting, 0, &packet()), 0);
     }
 }

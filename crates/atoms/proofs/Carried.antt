@@ -1,7 +1,5 @@
 -- What holds of every source that a codelet's lines read holds of what it resolves to. Assumes nothing.
-use Rattle.std.proofs.Common.{◌≡◌, ℕ, zero, suc, ◌<◌, Bool, true, false, cond, List, [], ◌∷◌, ◌++◌, length, get_or, Some, None, Option, sym, refl, subst, ⊎_elim, arith}
-use Rattle.std.proofs.lemmas.List.{get_or_past, get_or_push, get_or_append_left, length_push}
-use Rattle.std.proofs.lemmas.Bool.{cases_order}
+use Rattle.std.proofs.Common.{◌≡◌, ℕ, Bool, true, false, cond, List, get_or, Some, None, Option, refl}
 use Rattle.lines.specs.declared.line.Source.{Source}
 use Rattle.lines.specs.declared.line.Source.TheVariants.{Field, Line as Made, Constant}
 use Rattle.lines.specs.declared.line.Line.{Line}
@@ -12,7 +10,7 @@ use Rattle.resolving.specs.Codelets.{line_at, is_inner}
 use Rattle.lines.specs.Layout.{sources_of}
 use Rattle.resolving.specs.Resolving.{found, arm, through, resolved_line, table, resolved_to}
 use Rattle.resolving.specs.Sameness.{decided_as}
-use Rattle.resolving.proofs.Tables.{table_length}
+use Rattle.resolving.proofs.Tables.{table_each}
 use Rattle.atoms.specs.Rightness.{Each}
 
 module _ (cod : Codelet) (d : Decided) (P : Source → Type 0) (inner : (n : ℕ) → is_inner cod n ≡ true → Each P (sources_of (line_at cod n))) where
@@ -47,21 +45,8 @@ module _ (cod : Codelet) (d : Decided) (P : Source → Type 0) (inner : (n : ℕ
       go true e = through_reaches t k n (line_at cod n) (e refl) h
       go false e = h
 
-  push_reaches : (t : List Source) (y : Source) → Reaching t → (P (Made (length t)) → P y) → Reaching (t ++ (y ∷ []))
-  push_reaches t y k e m h =
-      ⊎_elim
-      (λ (same : m ≡ length t). subst P (sym (get_or_push t y (Made m) m (sym same))) (e (subst (λ i. P (Made i)) same h)))
-      (⊎_elim
-      (λ (below : m < length t). subst P (sym (get_or_append_left t (y ∷ []) (Made m) m below)) (k m h))
-      (λ (above : length t < m). subst P (sym (get_or_past (t ++ (y ∷ [])) m (Made m) (omega (arith, length_push t y)))) h))
-      (cases_order m (length t))
-
   table_reaches : (n : ℕ) → Reaching (table cod d n)
-  unfolding table
-  table_reaches zero = λ m h. h
-  table_reaches (suc n) =
-      push_reaches (table cod d n) (resolved_line cod d (table cod d n) n) (table_reaches n)
-      (λ h. line_reaches (table cod d n) (table_reaches n) n (subst (λ i. P (Made i)) (table_length cod d n) h))
+  table_reaches = table_each (λ m a. P (Made m) → P a) (λ m h. h) cod d (λ t k n. line_reaches t k n)
 
   pub resolved_reaches : (a : Source) → P a → P (resolved_to cod d a)
   resolved_reaches a h = found_reaches (table cod d 208) (table_reaches 208) a h

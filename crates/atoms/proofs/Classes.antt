@@ -1,5 +1,6 @@
 -- What an update's operation says of the classes. Assumes nothing.
 use Rattle.std.proofs.Common.{◌≡◌, Bool, true, false, cond, ◌&&◌, ◌||◌, Some, None, Option, refl}
+use Rattle.std.specs.Prelude.{is_some}
 use Rattle.lines.specs.declared.line.Source.{Source}
 use Rattle.lines.specs.declared.line.Line.{Line}
 use Rattle.lines.specs.declared.line.Line.TheVariants.{Read, Copy, Add, Sub, Less, Equal, Choose, Write}
@@ -26,10 +27,6 @@ adds None = false
 adds (Some (Set v)) = true
 adds (Some (ToAdd v)) = true
 adds (Some (Subtract v)) = false
-
-abbrev pub is_some : {X : Type 0} → Option X → Bool
-is_some None = false
-is_some (Some x) = true
 
 module _ (cod : Codelet) (d : Decided) where
   pub some_cond : {X : Type 0} (b : Bool) (x : X) → is_some (cond b (Some x) None) ≡ b

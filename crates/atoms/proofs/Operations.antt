@@ -1,6 +1,6 @@
 -- The operation that an update is gives the update's value. Assumes nothing.
-use Rattle.std.proofs.Common.{◌≡◌, ℕ, Bool, true, false, cond, not, ◌&&◌, List, Some, None, sym, refl, ap, ◌∙◌}
-use Rattle.std.proofs.lemmas.Bool.{and_parts}
+use Rattle.std.proofs.Common.{◌≡◌, ℕ, Bool, true, false, cond, not, ◌&&◌, List, Some, None, sym, refl, ap, ◌∙◌, subst}
+use Rattle.std.proofs.lemmas.Bool.{and_parts, false≢true}
 use Rattle.word.specs.Words.{Word}
 use Rattle.lines.specs.declared.line.Source.{Source}
 use Rattle.lines.specs.declared.line.Source.TheVariants.{Field, Line as Made, Constant}
@@ -13,13 +13,15 @@ use Rattle.resolving.specs.declared.leaf.Operation.{Operation}
 use Rattle.resolving.specs.declared.leaf.Operation.TheVariants.{Set, Add as ToAdd, Subtract}
 use Rattle.resolving.specs.Classes.{sum_of, difference_of, operation_in, operation_at, operation_of}
 use Rattle.resolving.specs.Codelets.{line_at, is_inner, inner_line, value, makes, Words, Satisfies}
-use Rattle.resolving.specs.Leaves.{is_old, is_leaf, is_other, leaf_of, leaf_value, NamesWord, operand, result}
+use Rattle.resolving.specs.Leaves.{is_old, is_leaf, is_other, leaf_of, leaf_value, NamesWord, OperatesOnWord, operand, result}
 use Rattle.lines.specs.Layout.{sources_of}
 use Rattle.resolving.specs.Resolving.{table, resolved_to}
 use Rattle.resolving.specs.Sameness.{Holds}
 use Rattle.resolving.proofs.Keeps.{keeps_values}
+use Rattle.atoms.specs.Kinds.{add_result}
 use Rattle.atoms.specs.Rightness.{Brings, Each, Right}
 use Rattle.settings.specs.Settings.{operation_from}
+use Rattle.atoms.proofs.Classes.{sets, adds}
 use Rattle.atoms.proofs.Carried.{resolved_reaches}
 use Rattle.atoms.proofs.Values.{WhereSome, at_some, leaf_word, old_value, leaf_gives}
 
@@ -95,7 +97,19 @@ module _ (plus minus : ℕ → ℕ → ℕ) (swap : (a b : ℕ) → Word a → W
     operation_gives u o b e w = at_some (operation_of cod d u) o (Gives (value all (resolved_to cod d u))) e (source_gives (resolved_to cod d u) (brings u b)) w ∙ keeps u
 
   -- a setting that says the update's operation is right for an atom that does this operation
-  pub operation_right : (does : Operation → ℕ → Packet → ℕ) (u : Source) (o : Operation) (s : List ℕ) → ((old : ℕ) (p : Packet) → does o old p ≡ result plus minus o old p) → operation_of cod d u ≡ Some o → NamesWord (operand o) → operation_from s ≡ o → Right plus minus (λ n old p. does (operation_from n) old p) cod d u s
+  pub operation_right : (does : Operation → ℕ → Packet → ℕ) (u : Source) (s : List ℕ) → operation_of cod d u ≡ Some (operation_from s) → OperatesOnWord (operation_of cod d u) → ((old : ℕ) (p : Packet) → does (operation_from s) old p ≡ result plus minus (operation_from s) old p) → Right plus minus (λ n old p. does (operation_from n) old p) cod d u s
   unfolding Right
-  operation_right does u o s same is named says = λ old all packet word words sat holds carries.
-      ap (λ q. does q old packet) says ∙ same old packet ∙ operation_gives old all packet word words sat holds carries.inner u o carries.written is named
+  operation_right does u s is named same = λ old all packet word words sat holds carries.
+      same old packet ∙ operation_gives old all packet word words sat holds carries.inner u (operation_from s) carries.written is (subst OperatesOnWord is named)
+
+-- what an atom does of an operation that it takes
+module _ (plus minus : ℕ → ℕ → ℕ) (old : ℕ) (p : Packet) where
+  pub sets_does : (o : Operation) → sets (Some o) ≡ true → leaf_value (operand o) old p ≡ result plus minus o old p
+  sets_does (Set v) e = refl
+  sets_does (ToAdd v) e = absurd (false≢true e)
+  sets_does (Subtract v) e = absurd (false≢true e)
+
+  pub adds_does : (o : Operation) → adds (Some o) ≡ true → add_result plus o old p ≡ result plus minus o old p
+  adds_does (Set v) e = refl
+  adds_does (ToAdd v) e = refl
+  adds_does (Subtract v) e = absurd (false≢true e)

@@ -3,9 +3,9 @@ ghost use Rattle.atoms.specs.Kinds.{add_takes, add_ran};
 ghost use Rattle.std.proofs.Common.{rules};
 
 use crate::atom::Atom;
-use lines::Source;
-use resolving::{Codelet, Decided, Operation, Packet};
-use settings::{read_operation, write_operation};
+use crate::fitting::fit_operation;
+use resolving::{Operation, Packet, Update};
+use settings::read_operation;
 use word::Arithmetic;
 
 // Does what ReadWrite does, and adds a leaf other than the old word to it; holds the arithmetic that it works in.
@@ -27,31 +27,19 @@ impl<M: Arithmetic> Atom for Add<M> {
         3
     }
 
-    fn class(&self, codelet: &Codelet, decided: &Decided, update: Source) -> bool {
-        match codelet.operation(decided, update) {
-            Some(Operation::Set(_)) | Some(Operation::Add(_)) => true,
-            _ => false,
-        }
+    fn class(&self, update: &Update) -> bool {
+        matches!(
+            update.operation(),
+            Some(Operation::Set(_) | Operation::Add(_))
+        )
     }
 
-    fn fit(
-        &self,
-        codelet: &Codelet,
-        decided: &Decided,
-        update: Source,
-        buffer: &mut [u32],
-    ) -> bool {
-        match codelet.operation(decided, update) {
-            Some(Operation::Set(v)) => {
-                write_operation(Operation::Set(v), buffer);
-                true
-            }
-            Some(Operation::Add(v)) => {
-                write_operation(Operation::Add(v), buffer);
-                true
-            }
-            Some(Operation::Subtract(_)) | None => false,
-        }
+    fn fit(&self, update: &Update, buffer: &mut [u32]) -> bool {
+        fit_operation(
+            update,
+            buffer,
+            |o| matches!(o, Operation::Set(_) | Operation::Add(_)),
+        )
     }
 
     fn run(&self, setting: &[u32], old: u32, packet: &Packet) -> u32 {

@@ -8,8 +8,7 @@ ghost use Rattle.resolving.specs.declared.packet.Packet.{Packet};
 ghost use Rattle.atoms.specs.Rightness.{Right};
 ghost use Rattle.settings.specs.Settings.{has_room};
 
-use lines::Source;
-use resolving::{Codelet, Decided, Packet};
+use resolving::{Packet, Update};
 use word::Arithmetic;
 
 // An atom kind is known by its class, its fit and its run. A setting is the list of numbers that tells an atom of this
@@ -30,20 +29,22 @@ pub trait Atom {
     fn length(&self) -> u32
         ensures { result ≡ len };
 
-    // Whether the atom can do a codelet's update.
-    fn class(&self, codelet: &Codelet, decided: &Decided, update: Source) -> bool
-        ensures { result ≡ takes codelet.now decided.now update };
+    // Whether the atom can do an update.
+    fn class(&self, update: &Update) -> bool
+        ensures { result ≡ takes update.now.codelet.now update.now.decided update.now.source };
 
     // Answers as class does, and with a yes writes a setting into the first numbers of the buffer. A buffer that is too
-    // short for a setting stays as it was.
-    fn fit(&self, codelet: &Codelet, decided: &Decided, update: Source, buffer: &mut [u32]) -> bool
-        ensures answer { result ≡ takes codelet.now decided.now update }
-        ensures right { result ≡ true → has_room len buffer.old ≡ true → Right Self.Arith.Arithmetic.plus Self.Arith.Arithmetic.minus ran codelet.now decided.now update buffer.new }
+    // short for a setting stays as it was. A yes or no and the caller's buffer, and no Option of a setting: the settings of an
+    // atom's type have no one length, and libraries use no heap.
+    fn fit(&self, update: &Update, buffer: &mut [u32]) -> bool
+        ensures answer { result ≡ takes update.now.codelet.now update.now.decided update.now.source }
+        ensures right { result ≡ true → has_room len buffer.old ≡ true → Right Self.Arith.Arithmetic.plus Self.Arith.Arithmetic.minus ran update.now.codelet.now update.now.decided update.now.source buffer.new }
         ensures refused { result ≡ false → buffer.new ≡ buffer.old }
         ensures short { has_room len buffer.old ≡ false → buffer.new ≡ buffer.old }
         ensures rest { drop len buffer.new ≡ drop len buffer.old };
 
-    // The new word, for any numbers in the setting.
+    // The new word, for any numbers in the setting. A setting, a word and a packet stay three arguments: a struct would be
+    // made anew for each run.
     fn run(&self, setting: &[u32], old: u32, packet: &Packet) -> u32
         ensures { result ≡ ran setting.now old packet.now };
 

@@ -3,6 +3,7 @@
 
 mod add;
 mod atom;
+mod fitting;
 mod read_write;
 mod subtract;
 

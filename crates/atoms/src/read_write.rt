@@ -3,9 +3,9 @@ ghost use Rattle.atoms.specs.Kinds.{read_write_takes, read_write_ran};
 ghost use Rattle.std.proofs.Common.{rules};
 
 use crate::atom::Atom;
-use lines::Source;
-use resolving::{Codelet, Decided, Operation, Packet};
-use settings::{read_operation, write_operation};
+use crate::fitting::fit_operation;
+use resolving::{Operation, Packet, Update};
+use settings::read_operation;
 use word::Arithmetic;
 
 // Keeps the old word or replaces it by another leaf; holds the arithmetic that it works in.
@@ -27,24 +27,13 @@ impl<M: Arithmetic> Atom for ReadWrite<M> {
         3
     }
 
-    fn class(&self, codelet: &Codelet, decided: &Decided, update: Source) -> bool {
-        codelet.is_leaf(codelet.resolve(decided).of(update))
+    fn class(&self, update: &Update) -> bool {
+        let resolved = update.codelet.resolve(&update.decided);
+        update.codelet.is_leaf(resolved.of(update.source))
     }
 
-    fn fit(
-        &self,
-        codelet: &Codelet,
-        decided: &Decided,
-        update: Source,
-        buffer: &mut [u32],
-    ) -> bool {
-        match codelet.operation(decided, update) {
-            Some(Operation::Set(v)) => {
-                write_operation(Operation::Set(v), buffer);
-                true
-            }
-            _ => false,
-        }
+    fn fit(&self, update: &Update, buffer: &mut [u32]) -> bool {
+        fit_operation(update, buffer, |o| matches!(o, Operation::Set(_)))
     }
 
     fn run(&self, setting: &[u32], old: u32, packet: &Packet) -> u32 {

@@ -3,9 +3,9 @@ ghost use Rattle.atoms.specs.Kinds.{subtract_takes, subtract_ran};
 ghost use Rattle.std.proofs.Common.{rules};
 
 use crate::atom::Atom;
-use lines::Source;
-use resolving::{Codelet, Decided, Operation, Packet};
-use settings::{read_operation, write_operation};
+use crate::fitting::fit_operation;
+use resolving::{Operation, Packet, Update};
+use settings::read_operation;
 use word::Arithmetic;
 
 // Does what Add does, and subtracts a leaf other than the old word from it; holds the arithmetic that it works in.
@@ -27,25 +27,12 @@ impl<M: Arithmetic> Atom for Subtract<M> {
         3
     }
 
-    fn class(&self, codelet: &Codelet, decided: &Decided, update: Source) -> bool {
-        match codelet.operation(decided, update) {
-            Some(_) => true,
-            None => false,
-        }
+    fn class(&self, update: &Update) -> bool {
+        update.operation().is_some()
     }
 
-    fn fit(
-        &self,
-        codelet: &Codelet,
-        decided: &Decided,
-        update: Source,
-        buffer: &mut [u32],
-    ) -> bool {
-        let Some(operation) = codelet.operation(decided, update) else {
-            return false;
-        };
-        write_operation(operation, buffer);
-        true
+    fn fit(&self, update: &Update, buffer: &mut [u32]) -> bool {
+        fit_operation(update, buffer, |_| true)
     }
 
     fn run(&self, setting: &[u32], old: u32, packet: &Packet) -> u32 {

@@ -6,36 +6,20 @@
 // refusal and its place.
 #![tactic(auto)]
 
-use atoms::Subtract;
-use choice::Choice;
-use compiler::compile;
-use std::io;
-use std::io::{BufWriter, Read, Stdout, Write};
-use word::Wrap;
+use answering::{Out, answer_all};
+use batch_compiler::compile_batch;
+use std::io::{Read, Write};
+use transaction::Refusal;
 
-fn write_answer(out: &mut BufWriter<Stdout>, image: &[u8]) -> io::Result<()> {
-    match compile(&Choice(Choice(Subtract(Wrap))), image, 30, 10, 8) {
-        Ok(plan) => {
-            let count = plan.placement.stages.count;
-            writeln!(out, "accepted {count}")
-        }
-        Err(fault) => {
-            let refusal = fault.refusal();
-            writeln!(out, "{refusal}")
-        }
+// `plan` and `verdicts` begin their answers in these words, each behind a call of its own, and go on otherwise.
+fn answer(image: &[u8], out: &mut Out) -> anyhow::Result<()> {
+    match compile_batch(image) {
+        Ok(plan) => writeln!(out, "accepted {}", plan.placement.stages.count)?,
+        Err(fault) => writeln!(out, "{}", Refusal::from(fault))?,
     }
-}
-
-fn read_and_compile(rt: &HostRuntime) -> anyhow::Result<()> {
-    let mut image = Vec::new(rt.alloc());
-    let mut input = rt.stdin().take(1024);
-    input.read_to_end(&mut image)?;
-    let mut out = BufWriter::new(rt.alloc(), rt.stdout())?;
-    write_answer(&mut out, image.as_slice())?;
-    out.flush()?;
     Ok(())
 }
 
 fn main(rt: HostRuntime) -> anyhow::Result<()> {
-    read_and_compile(&rt)
+    answer_all(&rt, rt.stdin().take(1024), answer)
 }

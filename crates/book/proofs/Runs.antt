@@ -108,13 +108,6 @@ module _ {Row : Type 0} (P : Pipeline Row) (one : Values → Values) (R : Right 
   ended_more [] c b = refl
   ended_more (x ∷ cs) c b = ended_more cs c (turned P.shape one x b)
 
-  pub call_more : (cs : List Call) (c : Call) (rs : List (Answer Outcome)) (m m' : Contents Row) → FeedsWords c → rs ≡ answers P.shape one cs [] → Agrees P one (ended P.shape one cs []) m → Stepped P (reply P c m) c m m' → (rs ++ reply P c m ∷ [] ≡ answers P.shape one (cs ++ c ∷ []) []) × Agrees P one (ended P.shape one (cs ++ c ∷ []) []) m'
-  call_more cs c rs m m' w e a t =
-      let x = one_call P one R c w (ended P.shape one cs []) m m' a t in (
-        ap₂ {C = List (Answer Outcome)} (λ (l : List (Answer Outcome)) (r : Answer Outcome). l ++ r ∷ []) e x.0 ∙ sym (answers_more cs c []),
-        subst (λ (b : List Packet). Agrees P one b m') (sym (ended_more cs c [])) x.1,
-      )
-
   pub every_run : EveryRun P one
   every_run cs rs m m' w z r =
       let x = calls_from P one R cs [] m m' rs w (fresh_agrees P one R m z) r in

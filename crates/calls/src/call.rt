@@ -10,10 +10,9 @@ pub enum Call {
     Peek(usize),
 }
 
-// What a call was answered; the fields of a packet that left are in the call's buffer.
-#[derive(Clone, Copy)]
+// What came of a call that was not refused; the fields of a packet that left are in the call's buffer.
+#[derive(Clone, Copy, Debug, PartialEq, Eq)]
 pub enum Reply {
-    Refusal(MachineFault),
     Done,
     // a state's word, and how many packets have reached its atom
     Shown(u32, u32),
@@ -23,5 +22,5 @@ pub enum Reply {
 #[derive(Drop)]
 pub struct Asked {
     pub call: Call,
-    pub answer: Reply,
+    pub answer: Result<Reply, MachineFault>,
 }

@@ -1,35 +1,15 @@
 // Calls, one after another.
 ghost use Rattle.std.specs.Prelude.{◌≡◌};
-ghost use Rattle.book.specs.Calls.Outcome.{word as shownAs};
 ghost use Rattle.plans.specs.Pipeline.{pipeline_of};
-ghost use Rattle.machine.specs.Faults.{answered};
 ghost use Rattle.machine.specs.Held.{contents};
-ghost use Rattle.machine.specs.Did.{Did, Spared};
-ghost use Rattle.calls.specs.Asking.{call_in, answer_in, answer_of, outcome_of, buffer, Spares};
+ghost use Rattle.machine.specs.Did.{Did};
+ghost use Rattle.machine.specs.Moved.{SameCircuit};
+ghost use Rattle.calls.specs.Asking.{call_in, answer_in, Spares};
 ghost use Rattle.calls.specs.Runs.{Run};
 
 use crate::call::{Asked, Call, Reply};
 use atoms::Atom;
-use machine::{Machine, MachineFault};
-
-fn outcome(r: Result<(), MachineFault>) -> Reply
-    ensures answer { (call : Call) → answer_of call result ≡ answered (λ _. outcome_of call) r }
-    ensures refusal { (before after : Call) → Spared r (buffer before) (buffer after) → Spares result before after }
-{
-    match r {
-        Ok(()) => Reply::Done,
-        Err(fault) => Reply::Refusal(fault),
-    }
-}
-
-fn sight(r: Result<(u32, u32), MachineFault>) -> Reply
-    ensures { (call : Call) → answer_of call result ≡ answered (λ p. shownAs p.0 p.1) r }
-{
-    match r {
-        Ok((word, count)) => Reply::Shown(word, count),
-        Err(fault) => Reply::Refusal(fault),
-    }
-}
+use machine::Machine;
 
 // Makes a call and puts its answer beside it.
 fn ask<A: Atom>(machine: &mut Machine<A>, asked: &mut Asked)
@@ -38,21 +18,13 @@ fn ask<A: Atom>(machine: &mut Machine<A>, asked: &mut Asked)
     ensures spares { Spares asked.new.answer asked.old.call asked.new.call }
 {
     match &mut asked.call {
-        Call::Feed(fields) => {
-            let r = machine.feed(fields);
-            asked.answer = outcome(r);
-        }
-        Call::Tick => {
-            let r = machine.tick();
-            asked.answer = outcome(r);
-        }
-        Call::Take(out) => {
-            let r = machine.take(out);
-            asked.answer = outcome(r);
-        }
+        Call::Feed(fields) => asked.answer = machine.feed(fields).map(|()| Reply::Done),
+        Call::Tick => asked.answer = machine.tick().map(|()| Reply::Done),
+        Call::Take(out) => asked.answer = machine.take(out).map(|()| Reply::Done),
         Call::Peek(s) => {
-            let r = machine.peek(*s);
-            asked.answer = sight(r);
+            asked.answer = machine
+                .peek(*s)
+                .map(|(word, count)| Reply::Shown(word, count));
         }
     }
 }
@@ -60,10 +32,9 @@ fn ask<A: Atom>(machine: &mut Machine<A>, asked: &mut Asked)
 // Makes the calls of a list, one after another, and puts each answer beside its call.
 pub fn run_calls<A: Atom>(machine: &mut Machine<A>, asked: &mut [Asked])
     ensures run { Run (pipeline_of A.Arith.Arithmetic.plus A.Arith.Arithmetic.minus A.Atom.ran machine.old.plan) asked.old asked.new (contents machine.old) (contents machine.new) }
-    ensures plan { machine.new.plan ≡ machine.old.plan }
-    ensures atom { machine.new.atom ≡ machine.old.atom }
+    ensures same { SameCircuit machine.old machine.new }
 {
-    for i in 0..asked.len() {
-        ask(machine, &mut asked[i]);
+    for one in asked.iter_mut() {
+        ask(machine, one);
     }
 }

@@ -9,7 +9,8 @@ use atoms::Atom;
 use machine::{Machine, StartFault};
 
 // Starts a machine on an image, makes the calls of a list one after another, puts each answer beside its call, and hands
-// back the machine. Whatever the calls are, nobody can tell the machine from the serial book.
+// back the machine. Whatever the calls are, nobody can tell the machine from the serial book. The limits come unchecked, as
+// `compile` takes them.
 pub fn serve<A: Atom + Drop>(
     atom: A,
     image: &[u8],

@@ -1,5 +1,6 @@
 -- What an update's fork says of the class. Assumes nothing.
-use Rattle.std.proofs.Common.{◌≡◌, Bool, true, false, cond, ◌&&◌, ◌||◌, Some, None, Option, sym, refl, ap, ◌∙◌}
+use Rattle.std.proofs.Common.{◌≡◌, Bool, true, false, cond, ◌&&◌, ◌||◌, Some, None, Option, sym, refl, ap, ◌∙◌, subst}
+use Rattle.std.specs.Prelude.{is_some}
 use Rattle.lines.specs.declared.line.Source.{Source}
 use Rattle.lines.specs.declared.line.Line.{Line}
 use Rattle.lines.specs.declared.line.Line.TheVariants.{Read, Copy, Add, Sub, Less, Equal, Choose, Write}
@@ -13,8 +14,9 @@ use Rattle.resolving.specs.Codelets.{inner_line}
 use Rattle.resolving.specs.Leaves.{is_leaf, leaf_of}
 use Rattle.resolving.specs.Resolving.{table, resolved_to}
 use Rattle.resolving.specs.Sameness.{decide}
-use Rattle.atoms.proofs.Classes.{is_some, some_cond}
-use Rattle.choice.specs.Choice.{is_choice, choice_takes, arms_taken}
+use Rattle.atoms.proofs.Classes.{some_cond}
+use Rattle.atoms.proofs.Values.{WhereSome, at_some}
+use Rattle.choice.specs.Choice.{is_choice, choice_takes, arms_taken, if_taken, taken_fork}
 
 module _ (cod : Codelet) (d : Decided) where
   line_predicate : (o : Option Line) → is_some (comparison_in cod (table cod d 208) o) ≡ is_comparison cod d o
@@ -41,6 +43,22 @@ module _ (cod : Codelet) (d : Decided) where
     arms None = false
     arms (Some f) = arms_taken takes cod d f
 
+    -- a fork that is taken is the update's, and its arms are taken
+    taken_says : (o : Option Fork) → WhereSome (if_taken takes cod d o) (λ f. (o ≡ Some f) × (arms_taken takes cod d f ≡ true))
+    taken_says None = tt
+    taken_says (Some f) = go (arms_taken takes cod d f) refl
+      where
+        go : (b : Bool) → arms_taken takes cod d f ≡ b → WhereSome (cond b (Some f) None) (λ h. (Some f ≡ Some h) × (arms_taken takes cod d h ≡ true))
+        go true e = (refl, e)
+        go false e = tt
+
+    pub taken_is : (u : Source) (f : Fork) → taken_fork takes cod d u ≡ Some f → (fork_of cod d u ≡ Some f) × (arms_taken takes cod d f ≡ true)
+    taken_is u f e = at_some (taken_fork takes cod d u) f (λ h. (fork_of cod d u ≡ Some h) × (arms_taken takes cod d h ≡ true)) e (taken_says (fork_of cod d u))
+
+    taken_arms : (o : Option Fork) → is_some (if_taken takes cod d o) ≡ arms o
+    taken_arms None = refl
+    taken_arms (Some f) = some_cond cod d (arms_taken takes cod d f) f
+
     on_predicate : (c a b : Source) (o : Option Predicate) → arms (fork_on c a b o) ≡ is_some o && (takes cod (decide d c true) a && takes cod (decide d c false) b)
     on_predicate c a b None = refl
     on_predicate c a b (Some p) = refl
@@ -59,5 +77,12 @@ module _ (cod : Codelet) (d : Decided) where
     line_arms (Some (Write s a)) = refl
 
     -- where the atom below does not take an update, choice takes it as the fork says
-    pub choice_takes_lem : (u : Source) (o : Option Fork) → takes cod d u ≡ false → fork_of cod d u ≡ o → choice_takes takes cod d u ≡ arms o
-    choice_takes_lem u o n e = ap (λ q. q || is_choice takes cod d (inner_line cod (resolved_to cod d u))) n ∙ sym (line_arms (inner_line cod (resolved_to cod d u))) ∙ ap arms e
+    pub choice_takes_lem : (u : Source) → takes cod d u ≡ false → is_some (taken_fork takes cod d u) ≡ choice_takes takes cod d u
+    choice_takes_lem u n =
+        taken_arms (fork_of cod d u)
+        ∙ line_arms (inner_line cod (resolved_to cod d u))
+        ∙ sym (ap (λ q. q || is_choice takes cod d (inner_line cod (resolved_to cod d u))) n)
+
+-- what holds of an update holds of one with the same codelet, decided conditions and source
+pub at_update : (P : Codelet → Decided → Source → Type 0) (x y : Codelet) (d e : Decided) (a b : Source) → x ≡ y → d ≡ e → a ≡ b → P x d a → P y e b
+at_update P x y d e a b p q r h = subst (λ i. P i e b) p (subst (λ i. P x i b) q (subst (λ i. P x d i) r h))

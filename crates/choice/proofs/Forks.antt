@@ -10,10 +10,11 @@ use Rattle.lines.specs.declared.line.Line.TheVariants.{Read, Copy, Add, Sub, Les
 use Rattle.resolving.specs.declared.codelet.Codelet.{Codelet}
 use Rattle.resolving.specs.declared.decided.Decided.{Decided}
 use Rattle.resolving.specs.declared.fork.Fork.{Fork}
+use Rattle.resolving.specs.declared.leaf.Leaf.{Leaf}
 use Rattle.resolving.specs.declared.leaf.Predicate.{Predicate}
 use Rattle.resolving.specs.declared.leaf.Predicate.TheVariants.{Always, True, Less as IsLess, Equal as IsEqual}
 use Rattle.resolving.specs.declared.packet.Packet.{Packet}
-use Rattle.resolving.specs.Classes.{comparison_in, predicate_at, fork_on, fork_in, fork_of}
+use Rattle.resolving.specs.Classes.{comparison_of, comparison_in, predicate_at, fork_on, fork_in, fork_of}
 use Rattle.resolving.specs.Codelets.{line_at, is_inner, inner_line, value, makes, Satisfies}
 use Rattle.resolving.specs.Leaves.{is_leaf, leaf_of, leaf_value, holds_at}
 use Rattle.lines.specs.Layout.{sources_of}
@@ -65,25 +66,22 @@ module _ (plus minus : ℕ → ℕ → ℕ) (cod : Codelet) (d : Decided) (old :
   brings : (a : Source) → Brings cod all packet a → Brings cod all packet (resolved_to cod d a)
   brings a = resolved_reaches cod d (Brings cod all packet) inner a
 
-  less_tests : (x y : Source) (v : ℕ) (b : Bool) → (is_leaf cod x && is_leaf cod y) ≡ b → v ≡ less_than (value all x) (value all y) → Brings cod all packet x → Brings cod all packet y → WhereSome (cond b (Some (IsLess (leaf_of cod x) (leaf_of cod y))) None) (Tests v)
-  less_tests x y v true h e bx by =
-      let p = and_parts (is_leaf cod x) (is_leaf cod y) h in
-      ap truth (ap₂ less_than (leaf_of_lem x p.0 bx) (leaf_of_lem y p.1 by) ∙ sym e)
-  less_tests x y v false h e bx by = tt
-
-  equal_tests : (x y : Source) (v : ℕ) (b : Bool) → (is_leaf cod x && is_leaf cod y) ≡ b → v ≡ equal_to (value all x) (value all y) → Brings cod all packet x → Brings cod all packet y → WhereSome (cond b (Some (IsEqual (leaf_of cod x) (leaf_of cod y))) None) (Tests v)
-  equal_tests x y v true h e bx by =
-      let p = and_parts (is_leaf cod x) (is_leaf cod y) h in
-      ap truth (ap₂ equal_to (leaf_of_lem x p.0 bx) (leaf_of_lem y p.1 by) ∙ sym e)
-  equal_tests x y v false h e bx by = tt
+  comparison_tests : (test : Leaf → Leaf → Predicate) (compare : ℕ → ℕ → ℕ) → ((a b : Leaf) → holds_at (test a b) old packet ≡ truth (compare (leaf_value a old packet) (leaf_value b old packet))) → (x y : Source) (v : ℕ) → v ≡ compare (value all x) (value all y) → Brings cod all packet x → Brings cod all packet y → WhereSome (comparison_of cod test x y) (Tests v)
+  comparison_tests test compare is x y v e bx by = go (is_leaf cod x && is_leaf cod y) refl
+    where
+      go : (b : Bool) → (is_leaf cod x && is_leaf cod y) ≡ b → WhereSome (cond b (Some (test (leaf_of cod x) (leaf_of cod y))) None) (Tests v)
+      go true h =
+          let p = and_parts (is_leaf cod x) (is_leaf cod y) h in
+          is (leaf_of cod x) (leaf_of cod y) ∙ ap truth (ap₂ compare (leaf_of_lem x p.0 bx) (leaf_of_lem y p.1 by) ∙ sym e)
+      go false h = tt
 
   line_tests : (v : ℕ) (l : Line) → v ≡ makes plus minus all old l → Each (Brings cod all packet) (sources_of l) → WhereSome (comparison_in cod (table cod d 208) (Some l)) (Tests v)
   line_tests v (Read s) e b = tt
   line_tests v (Copy a) e b = tt
   line_tests v (Add x y) e b = tt
   line_tests v (Sub x y) e b = tt
-  line_tests v (Less x y) e b = less_tests (resolved_to cod d x) (resolved_to cod d y) v _ refl (e ∙ sym (rw (keeps x, keeps y) refl)) (brings x b.0) (brings y b.1.0)
-  line_tests v (Equal x y) e b = equal_tests (resolved_to cod d x) (resolved_to cod d y) v _ refl (e ∙ sym (rw (keeps x, keeps y) refl)) (brings x b.0) (brings y b.1.0)
+  line_tests v (Less x y) e b = comparison_tests IsLess less_than (λ a b. refl) (resolved_to cod d x) (resolved_to cod d y) v (e ∙ sym (rw (keeps x, keeps y) refl)) (brings x b.0) (brings y b.1.0)
+  line_tests v (Equal x y) e b = comparison_tests IsEqual equal_to (λ a b. refl) (resolved_to cod d x) (resolved_to cod d y) v (e ∙ sym (rw (keeps x, keeps y) refl)) (brings x b.0) (brings y b.1.0)
   line_tests v (Choose c x y) e b = tt
   line_tests v (Write s a) e b = tt
 

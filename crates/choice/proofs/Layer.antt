@@ -1,5 +1,6 @@
 -- What the layer writes, as the atom below writes its parts. Assumes nothing.
-use Rattle.std.proofs.Common.{◌≡◌, ℕ, ◌+◌, ◌-◌, ◌*◌, ◌<◌, ◌≤◌, Bool, true, false, List, length, take, drop, Some, sym, ◌∙◌, arith}
+use Rattle.std.proofs.Common.{◌≡◌, ℕ, ◌+◌, ◌-◌, ◌*◌, ◌<◌, ◌≤◌, Bool, true, false, List, length, take, drop, Some, sym, ap, ◌∙◌, arith}
+use Rattle.std.specs.Prelude.{is_some}
 use borrow.Rule.Slice.PartMut.{put_mid}
 use Rattle.std.proofs.lemmas.Bool.{both_ways, or_left, and_from, and_parts, ltb-true, leb-true, lt-ltb, le-leb}
 use Rattle.word.specs.Words.{top}
@@ -9,12 +10,11 @@ use Rattle.resolving.specs.declared.decided.Decided.{Decided}
 use Rattle.resolving.specs.declared.fork.Fork.{Fork}
 use Rattle.resolving.specs.declared.leaf.Predicate.TheVariants.{Always}
 use Rattle.resolving.specs.declared.packet.Packet.{Packet}
-use Rattle.resolving.specs.Classes.{fork_of}
 use Rattle.resolving.specs.Sameness.{decide}
-use Rattle.choice.specs.Choice.{choice_length, choice_takes, choice_ran, arms_taken}
+use Rattle.choice.specs.Choice.{choice_length, choice_takes, choice_ran, taken_fork}
 use Rattle.atoms.specs.Rightness.{Right}
 use Rattle.settings.specs.Settings.{predicate_from, has_room}
-use Rattle.choice.proofs.Arms.{choice_takes_lem}
+use Rattle.choice.proofs.Arms.{taken_is, choice_takes_lem}
 use Rattle.choice.proofs.Forks.{below_fitted, fork_fitted}
 use Rattle.choice.proofs.Parts.{part_length, first_length, first_rest, second_rest, later}
 
@@ -45,6 +45,10 @@ module _ (plus minus : ℕ → ℕ → ℕ) (n : ℕ) (takes : Codelet → Decid
   room : Room n buffer
   room = room_of n buffer has
 
+  -- there is room for the head
+  pub head_fits : 5 ≤ length buffer
+  head_fits = omega (arith, room.fits)
+
   -- the buffer with its head written
   module _ (xs : List ℕ) (long : length xs ≡ length buffer) (kept : drop 5 xs ≡ drop 5 buffer) where
     roomy : 5 + 2 * n ≤ length xs
@@ -66,21 +70,20 @@ module _ (plus minus : ℕ → ℕ → ℕ) (n : ℕ) (takes : Codelet → Decid
           rest = first_rest xs ys n roomy whole (choice_length n) (omega (arith, room.whole)) ∙ head_rest;
         }
 
-    pub fork_wrote : (f : Fork) (ys zs : List ℕ) → takes cod d u ≡ false → fork_of cod d u ≡ Some f → predicate_from xs ≡ f.predicate
+    pub fork_wrote : (f : Fork) (ys zs : List ℕ) → takes cod d u ≡ false → taken_fork takes cod d u ≡ Some f → predicate_from xs ≡ f.predicate
         → length ys ≡ length (take ((5 + n) - 5) (drop 5 xs))
         → length zs ≡ length (take ((5 + 2 * n) - (5 + n)) (drop (5 + n) (put_mid 5 ((5 + n) - 5) xs ys)))
-        → arms_taken takes cod d f ≡ true
         → (has_room n (take ((5 + n) - 5) (drop 5 xs)) ≡ true → Right plus minus ran cod (decide d f.condition true) f.first ys)
         → (has_room n (take ((5 + 2 * n) - (5 + n)) (drop (5 + n) (put_mid 5 ((5 + n) - 5) xs ys))) ≡ true → Right plus minus ran cod (decide d f.condition false) f.second zs)
         → Fitted (put_mid (5 + n) ((5 + 2 * n) - (5 + n)) (put_mid 5 ((5 + n) - 5) xs ys) zs)
-    fork_wrote f ys zs refused is p l₁ l₂ taken first second =
+    fork_wrote f ys zs refused kept p l₁ l₂ first second =
         let one = put_mid 5 ((5 + n) - 5) xs ys in
         let w₁ : length ys ≡ n = l₁ ∙ part_length xs 5 n ((5 + n) - 5) (omega arith) (omega (arith, roomy)) in
         let roomy₁ : 5 + 2 * n ≤ length one = omega (arith, first_length xs ys n roomy w₁, roomy) in
         let w₂ : length zs ≡ n = l₂ ∙ part_length one (5 + n) n ((5 + 2 * n) - (5 + n)) (omega arith) (omega arith) in
         record {
-          answer = sym (choice_takes_lem cod d takes u (Some f) refused is ∙ taken);
-          right = fork_fitted plus minus n ran cod d u f xs ys zs is roomy w₁ w₂ p
+          answer = sym (ap is_some kept) ∙ choice_takes_lem cod d takes u refused;
+          right = fork_fitted plus minus n ran cod d u f xs ys zs (taken_is cod d takes u f kept).0 roomy w₁ w₂ p
               (first (part_room 5 xs (omega (arith, roomy)) ((5 + n) - 5) (omega arith)))
               (second (part_room (5 + n) one (omega arith) ((5 + 2 * n) - (5 + n)) (omega arith)));
           short = λ e. absurd (both_ways _ e has);

@@ -8,7 +8,7 @@ use Rattle.resolving.specs.declared.codelet.Codelet.{Codelet}
 use Rattle.resolving.specs.declared.decided.Decided.{Decided}
 use Rattle.resolving.specs.declared.packet.Packet.{Packet}
 use Rattle.resolving.specs.declared.fork.Fork.{Fork}
-use Rattle.resolving.specs.Classes.{is_predicate}
+use Rattle.resolving.specs.Classes.{is_predicate, fork_of}
 use Rattle.resolving.specs.Codelets.{inner_line}
 use Rattle.resolving.specs.Leaves.{holds_at}
 use Rattle.resolving.specs.Resolving.{resolved_to}
@@ -36,6 +36,15 @@ module _ (takes : Codelet → Decided → Source → Bool) where
   -- the atom below takes both arms of a fork
   abbrev pub arms_taken : Codelet → Decided → Fork → Bool
   arms_taken cod d f = takes cod (decide d f.condition true) f.first && takes cod (decide d f.condition false) f.second
+
+  -- a fork whose arms are both taken
+  abbrev pub if_taken : Codelet → Decided → Option Fork → Option Fork
+  if_taken cod d None = None
+  if_taken cod d (Some f) = cond (arms_taken cod d f) (Some f) None
+
+  -- the fork that an update is, where the atom below takes both its arms
+  abbrev pub taken_fork : Codelet → Decided → Source → Option Fork
+  taken_fork cod d u = if_taken cod d (fork_of cod d u)
 
 -- the length: past the top word it counts as the top word
 abbrev pub choice_length : ℕ → ℕ

@@ -1,35 +1,38 @@
 // The layer that chooses.
-ghost use Rattle.std.specs.Prelude.{◌≡◌, true, false};
+ghost use Rattle.std.specs.Prelude.{◌≡◌, cond};
 ghost use Rattle.resolving.specs.Sameness.{decide};
-ghost use Rattle.choice.specs.Choice.{arms_taken, choice_length, choice_takes, choice_ran};
+ghost use Rattle.choice.specs.Choice.{taken_fork, choice_length, choice_takes, choice_ran};
 ghost use Rattle.std.proofs.Common.{rules};
 
 use atoms::Atom;
-use lines::Source;
-use resolving::{Codelet, Decided, Fork, Packet, Predicate};
+use resolving::{Fork, Packet, Predicate, Update};
 use settings::{has_room, part, read_predicate, write_predicate};
 
 // Tests a predicate and lets the atom below do one of two things; works in that atom's arithmetic.
 #[derive(Clone, Copy)]
 pub struct Choice<A>(pub A);
 
-// The decided conditions with a fork's condition true, and with it false.
-fn both_ways(decided: &Decided, f: Fork) -> (Decided, Decided)
-    ensures yes { result.0 ≡ decide decided.now f.condition true }
-    ensures no { result.1 ≡ decide decided.now f.condition false }
+// An arm of a fork as an update, with the fork's condition decided: the first where it holds, else the second.
+fn arm<'a>(update: &Update<'a>, f: Fork, holds: bool) -> Update<'a>
+    ensures codelet { result.codelet.now ≡ update.now.codelet.now }
+    ensures decided { result.decided ≡ decide update.now.decided f.condition holds }
+    ensures source { result.source ≡ cond holds f.first f.second }
 {
-    let yes = decided.with(f.condition, true);
-    let no = decided.with(f.condition, false);
-    (yes, no)
+    Update {
+        codelet: update.codelet,
+        decided: update.decided.with(f.condition, holds),
+        source: if holds { f.first } else { f.second },
+    }
 }
 
 impl<A: Atom> Choice<A> {
-    // Whether the atom below takes both arms of a fork, each with the fork's condition decided.
-    fn takes_arms(&self, codelet: &Codelet, decided: &Decided, f: Fork) -> bool
-        ensures { result ≡ arms_taken A.Atom.takes codelet.now decided.now f }
+    // The fork that an update is, where the atom below takes both its arms.
+    fn taken_fork(&self, update: &Update) -> Option<Fork>
+        ensures { result ≡ taken_fork A.Atom.takes update.now.codelet.now update.now.decided update.now.source }
     {
-        let (yes, no) = both_ways(decided, f);
-        self.0.class(codelet, &yes, f.first) && self.0.class(codelet, &no, f.second)
+        let f = update.fork()?;
+        let taken = self.0.class(&arm(update, f, true)) && self.0.class(&arm(update, f, false));
+        taken.then_some(f)
     }
 }
 
@@ -48,43 +51,27 @@ impl<A: Atom> Atom for Choice<A> {
         self.0.length().saturating_mul(2).saturating_add(5)
     }
 
-    fn class(&self, codelet: &Codelet, decided: &Decided, update: Source) -> bool {
-        if self.0.class(codelet, decided, update) {
-            return true;
-        }
-        match codelet.fork(decided, update) {
-            Some(f) => self.takes_arms(codelet, decided, f),
-            None => false,
-        }
+    fn class(&self, update: &Update) -> bool {
+        self.0.class(update) || self.taken_fork(update).is_some()
     }
 
-    fn fit(
-        &self,
-        codelet: &Codelet,
-        decided: &Decided,
-        update: Source,
-        buffer: &mut [u32],
-    ) -> bool {
+    fn fit(&self, update: &Update, buffer: &mut [u32]) -> bool {
         if !has_room(self.length(), buffer) {
-            return self.class(codelet, decided, update);
+            return self.class(update);
         }
         let n = self.0.length() as usize;
-        if self.0.class(codelet, decided, update) {
+        if self.0.class(update) {
             write_predicate(Predicate::Always, buffer);
-            self.0.fit(codelet, decided, update, &mut buffer[5..5 + n]);
+            self.0.fit(update, &mut buffer[5..5 + n]);
             return true;
         }
-        let Some(f) = codelet.fork(decided, update) else {
+        let Some(f) = self.taken_fork(update) else {
             return false;
         };
-        if !self.takes_arms(codelet, decided, f) {
-            return false;
-        }
-        let (yes, no) = both_ways(decided, f);
         write_predicate(f.predicate, buffer);
-        self.0.fit(codelet, &yes, f.first, &mut buffer[5..5 + n]);
+        self.0.fit(&arm(update, f, true), &mut buffer[5..5 + n]);
         self.0
-            .fit(codelet, &no, f.second, &mut buffer[5 + n..5 + 2 * n]);
+            .fit(&arm(update, f, false), &mut buffer[5 + n..5 + 2 * n]);
         true
     }
 

@@ -1,5 +1,5 @@
 -- What is computed of codelets is exactly what paths say. Assumes nothing.
-use Rattle.std.proofs.Common.{◌≡◌, ℕ, ◌<◌, true, false, not, eqb, Decides, ⊎_elim, arith}
+use Rattle.std.proofs.Common.{◌≡◌, ℕ, ◌<◌, true, false, not, ◌&&◌, eqb, Decides, sym, ap, ◌∙◌, ⊎_elim, arith}
 use Rattle.std.proofs.lemmas.Bool.{both_ways, cases_lt, and_from, and_parts, not-true, not_from_false, ne_eqb, eqb-false}
 use Rattle.std.proofs.lemmas.List.{get_or_past}
 use Rattle.graph.specs.Paths.{Path}
@@ -21,6 +21,10 @@ module _ (r : Lines) where
     λ e. let (k, m) = and_parts (is_named r s) _ e in let (p, q) = (meets_decides (write_of r s) n).0 m in record { named = k; from = p; back = q },
     λ i. and_from _ _ i.named ((meets_decides (write_of r s) n).1 (i.from, i.back)),
   )
+
+  -- where a named state's write line meets line n, n is in the state's codelet
+  pub named_in : (s n w : ℕ) → is_named r s ≡ true → w ≡ write_of r s → meets r w n ≡ in_codelet r s n
+  named_in s n w named e = ap (λ w. meets r w n) e ∙ sym (ap (λ b. b && meets r (write_of r s) n) named)
 
   -- a named state is one of eight
   pub named_below : (s : ℕ) → is_named r s ≡ true → s < 8

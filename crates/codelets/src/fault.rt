@@ -4,18 +4,18 @@ ghost use Rattle.codelets.specs.Faults.{codelet_refusal};
 
 use transaction::Refusal;
 
-#[derive(Clone, Copy)]
+#[derive(Clone, Copy, Debug, PartialEq, Eq)]
 pub enum CodeletFault {
     // Two states are in one codelet; the smallest such state.
     TwoStates(usize),
 }
 
-impl CodeletFault {
-    // The fault's number and place.
-    pub fn refusal(self) -> Refusal
-        ensures { result ≡ codelet_refusal self }
-    {
-        match self {
+// The fault's number and place.
+impl From<CodeletFault> for Refusal {
+    ghost from_gives = { λ f r. r ≡ codelet_refusal f };
+
+    fn from(f: CodeletFault) -> Refusal {
+        match f {
             CodeletFault::TwoStates(place) => Refusal { number: 8, place },
         }
     }

@@ -15,8 +15,8 @@ use Rattle.compiler.specs.declared.fault.AtomFault.TheVariants.{Setting, Update}
 use Rattle.compiler.specs.Verdict.{untaken}
 
 -- a setting of at most 64 numbers, or how many there are
-abbrev pub Short : ℕ → Result (Unit {0}) AtomFault → Type 0
-Short len (Ok u) = len ≤ 64
+abbrev pub Short : {X : Type 0} → ℕ → Result X AtomFault → Type 0
+Short len (Ok x) = len ≤ 64
 Short len (Err (Setting n)) = (64 < len) × (n ≡ len)
 Short len (Err (Update s)) = ⊥
 

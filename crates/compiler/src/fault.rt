@@ -8,7 +8,7 @@ use stages::{LimitFault, StageFault};
 use transaction::{ReadFault, Refusal};
 
 // What the chosen atoms cannot do.
-#[derive(Clone, Copy)]
+#[derive(Clone, Copy, Debug, PartialEq, Eq)]
 pub enum AtomFault {
     // Their setting takes so many numbers, and there is room for 64.
     Setting(u32),
@@ -16,7 +16,7 @@ pub enum AtomFault {
     Update(usize),
 }
 
-#[derive(Clone, Copy)]
+#[derive(Clone, Copy, Debug, PartialEq, Eq)]
 pub enum CompileFault {
     Limits(LimitFault),
     Atoms(AtomFault),
@@ -65,12 +65,12 @@ impl From<StageFault> for CompileFault {
     }
 }
 
-impl AtomFault {
-    // The fault's number and place.
-    pub fn refusal(self) -> Refusal
-        ensures { result ≡ atom_refusal self }
-    {
-        match self {
+// The fault's number and place.
+impl From<AtomFault> for Refusal {
+    ghost from_gives = { λ f r. r ≡ atom_refusal f };
+
+    fn from(f: AtomFault) -> Refusal {
+        match f {
             AtomFault::Setting(length) => Refusal {
                 number: 2,
                 place: length as usize,
@@ -80,17 +80,17 @@ impl AtomFault {
     }
 }
 
-impl CompileFault {
-    // The fault's number and place.
-    pub fn refusal(self) -> Refusal
-        ensures { result ≡ compile_refusal self }
-    {
-        match self {
-            CompileFault::Limits(f) => f.refusal(),
-            CompileFault::Atoms(f) => f.refusal(),
-            CompileFault::Image(f) => f.refusal(),
-            CompileFault::Codelets(f) => f.refusal(),
-            CompileFault::Stages(f) => f.refusal(),
+// The fault's number and place.
+impl From<CompileFault> for Refusal {
+    ghost from_gives = { λ f r. r ≡ compile_refusal f };
+
+    fn from(f: CompileFault) -> Refusal {
+        match f {
+            CompileFault::Limits(f) => Refusal::from(f),
+            CompileFault::Atoms(f) => Refusal::from(f),
+            CompileFault::Image(f) => Refusal::from(f),
+            CompileFault::Codelets(f) => Refusal::from(f),
+            CompileFault::Stages(f) => Refusal::from(f),
         }
     }
 }

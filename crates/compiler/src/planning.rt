@@ -1,9 +1,8 @@
 // From an image to a plan.
-ghost use Rattle.std.specs.Prelude.{◌≤◌};
 ghost use Rattle.compiler.specs.Verdict.{outcome, TransactionJudged, Verdict};
 ghost use Rattle.compiler.specs.Planned.{TransactionPlanned, Planned};
 
-use crate::atom_settings::{check_length, settings_of};
+use crate::atom_settings::Fitter;
 use crate::fault::CompileFault;
 use atoms::Atom;
 use codelets::codelets_of;
@@ -16,17 +15,16 @@ use transaction::Transaction;
 
 // The plan of a transaction within limits.
 fn plan_of<A: Atom>(
-    atom: &A,
+    fitter: &Fitter<A>,
     transaction: &Transaction,
     limits: &Limits,
 ) -> Result<Plan, CompileFault>
-    requires { A.Atom.len ≤ 64 }
     ensures verdict { TransactionJudged A.Atom.takes transaction.now limits.now (outcome result) }
     ensures plan { TransactionPlanned A.Arith.Arithmetic.plus A.Arith.Arithmetic.minus A.Atom.ran transaction.now limits.now result }
 {
     let lines = lines_of(transaction);
     let codelets = codelets_of(&lines)?;
-    let settings = settings_of(atom, &codelets)?;
+    let settings = fitter.settings_of(&codelets)?;
     let placement = place_codelets(&codelets, limits)?;
     Ok(Plan {
         transaction: *transaction,
@@ -36,6 +34,7 @@ fn plan_of<A: Atom>(
 }
 
 // The plan of an image over an atom, for at most d stages with room for p lines and echoes and for q atoms each.
+// The limits stay three numbers: one out of its range is refused here, with its number and place.
 pub fn compile<A: Atom>(
     atom: &A,
     image: &[u8],
@@ -47,7 +46,7 @@ pub fn compile<A: Atom>(
     ensures plan { Planned A.Arith.Arithmetic.plus A.Arith.Arithmetic.minus A.Atom.ran image.now d p q result }
 {
     let limits = Limits::new(d, p, q)?;
-    check_length(atom)?;
+    let fitter = Fitter::of(atom)?;
     let transaction = read_image(image)?;
-    plan_of(atom, &transaction, &limits)
+    plan_of(&fitter, &transaction, &limits)
 }

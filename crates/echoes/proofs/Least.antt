@@ -1,10 +1,11 @@
 -- The computed echoes are exactly the least set. Assumes nothing.
-use Rattle.std.proofs.Common.{◌≡◌, ℕ, zero, suc, ◌<◌, ◌≤◌, Bool, true, false, ◌&&◌, ◌||◌, List, [], ◌∷◌, map, length, get_or, Some, None, Decides, Option, sym, refl, ap, ◌∙◌, subst, ⊎_elim, arith}
+use Rattle.std.proofs.Common.{◌≡◌, ℕ, ◌<◌, ◌≤◌, Bool, true, false, ◌&&◌, ◌||◌, List, [], ◌∷◌, map, length, get_or, Some, None, Decides, Option, MatchOption, sym, refl, ap, ◌∙◌, subst, ⊎_elim, arith}
 use Rattle.std.specs.List.{range_with_len}
-use Rattle.std.proofs.lemmas.Bool.{both_ways, cases_lt, and_parts, and_from, or_cases, or_left, or_right, not-true, not_from_false, eqb-true}
+use Rattle.std.proofs.lemmas.Bool.{both_ways, cases_lt, and_parts, and_from, or_cases, or_left, or_right, not-true, not_from_false, eqb-true, false_from_ne_true}
 use Rattle.std.proofs.lemmas.Bool.Decides.{same_from_decides}
 use Rattle.std.proofs.lemmas.List.FromFn.{length-map-range_with_len, get_or-map-range_with_len}
 use Rattle.std.proofs.lemmas.List.{get_or_past}
+use Rattle.std.proofs.lemmas.List.Folds.{list_any_at}
 use Rattle.graph.specs.Paths.{Path, here, step, Led}
 use Rattle.graph.specs.Rounds.{some_below}
 use Rattle.graph.proofs.Paths.{path_to}
@@ -19,11 +20,8 @@ use Rattle.codelets.specs.Codelets.{is_named, in_codelet, is_owner, Owned}
 use Rattle.codelets.specs.Inner.{owned, inner}
 use Rattle.echoes.specs.Echoes.{is_final, read_outside, leaves, Echo, ends, parts, serves, seed, back, echo, EchoesLeast}
 use Rattle.codelets.proofs.Paths.{in_below, named_below}
+use Rattle.lines.proofs.Naming.{any_of-list_any}
 use Rattle.codelets.proofs.Inner.{owner_one, owner_none}
-
-false_of : (b : Bool) → (b ≡ true → ⊥) → b ≡ false
-false_of true h = absurd (h refl)
-false_of false h = refl
 
 -- a line that is neither a read line nor a write line is none of a pair
 plain_unpaired : (l m : Line) → is_plain l ≡ true → pairs l m ≡ false
@@ -36,25 +34,29 @@ plain_unpaired (Equal a b) m e = refl
 plain_unpaired (Choose c a b) m e = refl
 plain_unpaired (Write s a) m e = refl
 
--- one of a list is such, or none is
+-- one of a list is such
 pub any_one : {A : Type 0} (p : A → Bool) (l : List A) (i : ℕ) (d : A) → i < length l → p (get_or l i d) ≡ true → any_of p l ≡ true
-any_one p [] i d h e = absurd (omega arith)
-any_one p (x ∷ xs) zero d h e = or_left (p x) _ e
-any_one p (x ∷ xs) (suc i) d h e = or_right (p x) _ (any_one p xs i d (omega arith) e)
-
-pub any_none : {A : Type 0} (p : A → Bool) (l : List A) (d : A) → ((i : ℕ) → i < length l → p (get_or l i d) ≡ false) → any_of p l ≡ false
-any_none p [] d h = refl
-any_none p (x ∷ xs) d h = ap (λ b. b || any_of p xs) (h 0 (omega arith)) ∙ any_none p xs d (λ i lt. h (suc i) (omega arith))
+any_one p l i d h e = any_of-list_any p l ∙ list_any_at p l i d h e
 
 module _ (r : Lines) where
   pub inner_below : (n : ℕ) → inner r n ≡ true → n < r.count
   inner_below n i = let (s, h, e) = (some_decides (λ s. in_codelet r s n) 8).0 (and_parts (owned r n) _ i).0 in in_below r s n e
 
   pub inner_past : (n : ℕ) → r.count ≤ n → inner r n ≡ false
-  inner_past n h = false_of (inner r n) (λ i. omega (arith, inner_below n i))
+  inner_past n h = false_from_ne_true (inner r n) (λ i. omega (arith, inner_below n i))
 
   pub seed_past : (n : ℕ) → r.count ≤ n → seed r n ≡ false
   seed_past n h = ap (λ b. b && (is_final r n || leaves r n)) (inner_past n h)
+
+  -- a table of the lines that pass, and of none past the last line
+  table_at : (p : ℕ → Bool) → ((n : ℕ) → r.count ≤ n → p n ≡ false) → (on : List Bool) → length on ≡ 208 → ((n : ℕ) → n < 208 → get_or on n false ≡ p n) → (n : ℕ) → get_or on n false ≡ p n
+  table_at p past on long at n = ⊎_elim (at n) (λ le. get_or_past on n false (omega arith) ∙ sym (past n (omega (arith, r.few)))) (cases_lt n 208)
+
+  pub inner_at : (on : List Bool) → length on ≡ 208 → ((n : ℕ) → n < 208 → get_or on n false ≡ inner r n) → (n : ℕ) → get_or on n false ≡ inner r n
+  inner_at = table_at (inner r) inner_past
+
+  pub seed_at : (on : List Bool) → length on ≡ 208 → ((n : ℕ) → n < 208 → get_or on n false ≡ seed r n) → (n : ℕ) → get_or on n false ≡ seed r n
+  seed_at = table_at (seed r) seed_past
 
   pub echo_inner : {n : ℕ} → Echo r n → inner r n ≡ true
   echo_inner (ends n i f) = i
@@ -128,9 +130,13 @@ pub echoes_least : EchoesLeast
 echoes_least = echo_decides
 
 module _ (r : Lines) (owner : List (Option ℕ)) (o : Owned r owner) (n : ℕ) where
-  pub leaves_none : get_or owner n None ≡ None → leaves r n ≡ false
-  leaves_none e = false_of (leaves r n) (λ t. let (s, h, i) = (some_decides (λ s. in_codelet r s n && some_below r.count (read_outside r s n)) 8).0 t in both_ways _ (owner_none r owner o n e s) (and_parts (in_codelet r s n) _ i).0)
+  leaves_none : get_or owner n None ≡ None → leaves r n ≡ false
+  leaves_none e = false_from_ne_true (leaves r n) (λ t. let (s, h, i) = (some_decides (λ s. in_codelet r s n && some_below r.count (read_outside r s n)) 8).0 t in both_ways _ (owner_none r owner o n e s) (and_parts (in_codelet r s n) _ i).0)
 
-  pub leaves_some : (s : ℕ) → get_or owner n None ≡ Some s → leaves r n ≡ some_below r.count (read_outside r s n)
+  leaves_some : (s : ℕ) → get_or owner n None ≡ Some s → leaves r n ≡ some_below r.count (read_outside r s n)
   leaves_some s e =
       same_from_decides {P = some_below r.count (read_outside r s n) ≡ true} _ _ (λ t. let (u, h, i) = (some_decides (λ s. in_codelet r s n && some_below r.count (read_outside r s n)) 8).0 t in let (p, q) = and_parts (in_codelet r u n) _ i in subst (λ v. some_below r.count (read_outside r v n) ≡ true) (sym (eqb-true s u (sym (ap (λ x. is_owner x u) e) ∙ (o u n ∙ p)))) q, λ t. (some_decides (λ s. in_codelet r s n && some_below r.count (read_outside r s n)) 8).1 (s, named_below r s (and_parts (is_named r s) _ (owner_one r owner o n s e)).0, and_from _ _ (owner_one r owner o n s e) t)) (λ t. t, λ t. t)
+
+  pub leaves_is : (b : Bool) (o : Option ℕ) → o ≡ get_or owner n None → MatchOption o (b ≡ false) (λ s. b ≡ some_below r.count (read_outside r s n)) → b ≡ leaves r n
+  leaves_is b (Some s) e m = m ∙ sym (leaves_some s (sym e))
+  leaves_is b None e m = m ∙ sym (leaves_none (sym e))

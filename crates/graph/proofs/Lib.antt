@@ -2,3 +2,4 @@
 pub mod Paths
 pub mod Rounds
 pub mod Marking
+pub mod Any

@@ -1,8 +1,8 @@
 -- The rounds find exactly the nodes that a path leads to. Assumes nothing.
 use Rattle.std.proofs.Common.{◌≡◌, ℕ, zero, suc, ◌+◌, ◌<◌, ◌≤◌, Bool, true, false, cond, ◌&&◌, ◌||◌, eqb, ◌⊎◌, List, [], ◌∷◌, map, length, get_or, Decides, sym, refl, ap, ◌∙◌, subst, inl, inr, ⊎_elim, arith}
-use Rattle.std.specs.List.{range_with_len}
-use Rattle.std.proofs.lemmas.Bool.{both_ways, cases_lt, or_cases, or_left, or_right, and_parts, and_from, eqb-true, eq-eqb}
-use Rattle.std.proofs.lemmas.Bool.Decides.{Decides-below_or}
+use Rattle.std.specs.List.{range_with_len, list_any}
+use Rattle.std.proofs.lemmas.Bool.{both_ways, cases_eq, cases_lt, or_cases, or_left, or_right, and_parts, and_from, eqb-true, eq-eqb}
+use Rattle.std.proofs.lemmas.Bool.Decides.{Decides-below_or, same_from_decides}
 use Rattle.std.proofs.lemmas.List.FromFn.{length-map-range_with_len, get_or-map-range_with_len}
 use Rattle.std.proofs.lemmas.List.{get_or_past}
 use Rattle.std.proofs.lemmas.List.Sums.{sum_by-cons, get_or-le-sum_by, count_by-le-length}
@@ -13,6 +13,19 @@ use Rattle.graph.proofs.Paths.{path_from, path_to}
 
 pub some_decides : (p : ℕ → Bool) (n : ℕ) → Decides (some_below n p) ((k : ℕ) × (k < n) × (p k ≡ true))
 some_decides p = Decides-below_or p (λ k. p k ≡ true) (λ n. some_below n p) (λ k. (λ e. e, λ e. e)) refl (λ _. refl)
+
+any_from : (p : ℕ → Bool) (a n : ℕ) → Decides (list_any p (range_with_len a n)) ((k : ℕ) × (a ≤ k) × (k < a + n) × (p k ≡ true))
+any_from p a zero = (λ e. absurd (both_ways _ refl e), λ (k, l, h, e). absurd (omega arith))
+any_from p a (suc n) =
+    let rest = any_from p (a + 1) n in (
+      λ t. ⊎_elim (λ e. (a, omega arith, omega arith, e)) (λ r. let (k, l, h, e) = rest.0 r in (k, omega arith, omega arith, e)) (or_cases (p a) _ t),
+      λ (k, l, h, e). ⊎_elim (λ (q : k ≡ a). or_left (p a) _ (subst (λ m. p m ≡ true) q e)) (λ ne. or_right (p a) _ (rest.1 (k, omega arith, omega arith, e))) (cases_eq k a),
+    )
+
+-- what `any` over the numbers below n computes
+pub some_below_any : (p : ℕ → Bool) (n : ℕ) → list_any p (range_with_len 0 n) ≡ some_below n p
+some_below_any p n =
+    same_from_decides _ _ (any_from p 0 n) (let d = some_decides p n in (λ e. let (k, h, o) = d.0 e in (k, omega arith, omega arith, o), λ (k, l, h, e). d.1 (k, omega arith, e)))
 
 marked_cons : (b : Bool) (l : List Bool) → marked (b ∷ l) ≡ cond b 1 0 + marked l
 marked_cons b l = sum_by-cons (λ b. cond b 1 0) b l

@@ -31,19 +31,15 @@ pub trait Graph {
 }
 
 // The rounds of the definition find exactly the nodes that a path leads to; a sample computes.
-pub fn rounds_decide_paths() -> u8
+pub fn rounds_decide_paths()
     ensures one { RoundsDecidePaths }
     ensures led { LedDecidesPaths }
     ensures all { ClosureDecidesPaths }
     ensures sample { SampleReached }
-{
-    0
-}
+{}
 
 // Paths compose, and turn with their edges.
-pub fn paths_compose_and_turn() -> u8
+pub fn paths_compose_and_turn()
     ensures compose { PathsCompose }
     ensures turn { PathsTurn }
-{
-    0
-}
+{}

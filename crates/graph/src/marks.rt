@@ -23,13 +23,14 @@ impl Marks {
     pub fn has(&self, n: usize) -> bool
         ensures { result ≡ slice_index_or self.now.on n false }
     {
-        n < ROOM && self.on[n]
+        self.on.get(n).copied().unwrap_or(false)
     }
 
     // Marks n; nothing changes for a number past the room.
     pub fn add(&mut self, n: usize)
         ensures { self.new.on ≡ slice_set self.old.on n true }
     {
+        // by index: over `get_mut` the proof didn't close
         if n < ROOM {
             self.on[n] = true;
         }

@@ -1,9 +1,12 @@
 -- An image is accepted exactly when it is the written form of a well-formed transaction. Assumes nothing.
-use Rattle.std.proofs.Common.{◌≡◌, ℕ, ◌≤◌, true, ◌&&◌, ◌||◌, ltb, leb, List, [], ◌++◌, length, sym, ap, ◌∙◌, subst, arith}
-use Rattle.std.proofs.lemmas.Bool.{and_parts, and_from, or_parts, or_from, ltb-false, le-ltb, leb-true, le-leb, cond-false}
+use Rattle.std.proofs.Common.{◌≡◌, ℕ, ◌≤◌, true, ◌||◌, ltb, List, [], ◌++◌, length, Ok, Err, Result, sym, ap, ◌∙◌, subst, arith}
+use Rattle.std.proofs.lemmas.Bool.Decides.{nat_tests}
+use Rattle.std.proofs.lemmas.Bool.{or_parts, or_from, ltb-false, le-ltb, cond-false}
+use Rattle.transaction.specs.declared.fault.ReadFault.{ReadFault}
 use Rattle.transaction.specs.declared.statement.Statement.{Statement}
+use Rattle.transaction.specs.declared.transaction.Transaction.{Transaction}
 use Rattle.transaction.specs.WellFormed.{Program, within, nested, well_formed}
-use Rattle.image.specs.Reading.{Answer, got, answer, image_says, within_at, program_at}
+use Rattle.image.specs.Reading.{Answer, got, answered, answer, said, told_by, image_says, within_at, program_at}
 use Rattle.image.specs.Writing.{number, written_all, written}
 use Rattle.image.specs.Theorem.{AcceptsWritten, ReadExactly}
 use Rattle.image.proofs.GoodReads.{carried, unless, answer_good, next_case, next_from}
@@ -35,27 +38,17 @@ record Well (f s : ℕ) (xs : List Statement) : Type 0 where
   nest : nested [] xs ≡ true
 
 well_to : {f s : ℕ} {xs : List Statement} → Well f s xs → well_formed (record { fields = f; states = s; statements = xs }) ≡ true
-well_to {f} {s} {xs} w =
-    and_from _ _ (and_from _ _ (le-leb 1 f w.some_fields) (le-leb f 16 w.few_fields))
-    (and_from _ _ (le-leb s 8 w.few_states) (and_from _ _ (le-leb (length xs) 48 w.few) (and_from _ _ w.there w.nest)))
+well_to w = grind (arith, nat_tests)
 
 well_from : (p : Program) → well_formed p ≡ true → Well p.fields p.states p.statements
 well_from p e =
-    let f = p.fields in
-    let s = p.states in
-    let xs = p.statements in
-    let a = and_parts (leb 1 f && leb f 16) (leb s 8 && (leb (length xs) 48 && (within f s xs && nested [] xs))) e in
-    let b = and_parts (leb 1 f) (leb f 16) a.0 in
-    let c = and_parts (leb s 8) (leb (length xs) 48 && (within f s xs && nested [] xs)) a.1 in
-    let d = and_parts (leb (length xs) 48) (within f s xs && nested [] xs) c.1 in
-    let g = and_parts (within f s xs) (nested [] xs) d.1 in
     record {
-      some_fields = leb-true 1 f b.0;
-      few_fields = leb-true f 16 b.1;
-      few_states = leb-true s 8 c.0;
-      few = leb-true (length xs) 48 d.0;
-      there = g.0;
-      nest = g.1;
+      some_fields = grind (arith, nat_tests);
+      few_fields = grind (arith, nat_tests);
+      few_states = grind (arith, nat_tests);
+      few = grind (arith, nat_tests);
+      there = grind (arith, nat_tests);
+      nest = grind (arith, nat_tests);
     }
 
 module _ (bs : List ℕ) where
@@ -117,3 +110,8 @@ read_exactly bs a e = record {
   accepted = λ p h. accepts_written.accepted bs p (sym e ∙ h);
   complete = λ p w same. e ∙ ap image_says same ∙ accepts_written.reads_back p w;
 }
+
+-- the answer where reading began at the first byte
+pub told_at : (r : Result Transaction ReadFault) (at : ℕ) (bs : List ℕ) → answered (said r) at ≡ program_at bs 0 → told_by r ≡ image_says bs
+told_at (Ok t) at bs e = ap answer e
+told_at (Err f) at bs e = ap answer e

@@ -2,7 +2,6 @@ pub mod AcceptsWritten
 pub mod GoodReads
 pub mod Numbers
 pub mod Spans
-pub mod Steps
 pub mod Tables
 pub mod WrittenNumbers
 pub mod WrittenPlaces

@@ -1,11 +1,11 @@
 -- A number is read exactly where its shortest form stands. Assumes nothing.
 use Rattle.std.proofs.Common.{◌≡◌, ℕ, zero, suc, ◌+◌, ◌-◌, ◌*◌, ◌/◌, ◌%◌, ◌^◌, ◌<◌, ◌≤◌, false, ◌&&◌, ◌||◌, eqb, ltb, List, [], ◌∷◌, ◌++◌, length, drop, sym, refl, ap, ◌∙◌, subst, ⊎_elim, mul_assoc, add-mul, pow-suc, arith, pow-add}
 use native.Mathlib.Nat.{div-add-mod}
-use Rattle.std.proofs.lemmas.Bool.{lt-ltb, le-ltb, ltb-true, ltb-false, and_parts, and_from, and_left, or_parts, cond-true, cond-false, cases_lt}
+use Rattle.std.proofs.lemmas.Bool.{lt-ltb, le-ltb, ltb-true, ltb-false, and_parts, and_from, or_parts, cond-true, cond-false, cases_lt}
 use Rattle.std.proofs.lemmas.Bool.Decides.{nat_tests}
 use Rattle.image.specs.Reading.{got, groups, ending, number_at}
 use Rattle.image.specs.Writing.{written_in, number}
-use Rattle.image.proofs.GoodReads.{refused_not, same_value, same_offset, unless, only_where}
+use Rattle.image.proofs.GoodReads.{unless, only_where}
 use Rattle.image.proofs.Spans.{Spans, spans_front}
 
 parts : (q r w : ℕ) → r * w + q * (w * 128) ≡ (128 * q + r) * w
@@ -75,7 +75,7 @@ ended : (start b k v at : ℕ) {n end : ℕ} → ending start (eqb b 0 && ltb 0 
 ended start b k v at e =
     let u = unless ((eqb b 0 && ltb 0 k) || ltb 4294967295 v) _ _ e in
     let q = or_parts (eqb b 0 && ltb 0 k) (ltb 4294967295 v) u.0 in
-    (some q.0, ltb-false 4294967295 v q.1, same_value u.1, same_offset u.1)
+    (some q.0, ltb-false 4294967295 v q.1, (cc), (cc))
   where
     some : (eqb b 0 && ltb 0 k) ≡ false → 0 < k → 0 < b
     some p q = grind (arith, nat_tests)
@@ -113,8 +113,8 @@ module _ (start j k v b : ℕ) (l : List ℕ) (n end : ℕ) where
       }
 
 ends : (start j k v : ℕ) (l : List ℕ) (n end : ℕ) → j + k ≡ 5 → groups start k v l ≡ got n end → Ends start k v j l n end
-ends start j k v [] n end e r = absurd (refused_not r)
-ends start zero k v (b ∷ l) n end e r = absurd (refused_not (sym (cond-false _ _ _ (and_left _ _ (le-ltb k 5 (omega arith)))) ∙ r))
+ends start j k v [] n end e r = cc
+ends start zero k v (b ∷ l) n end e r = grind (arith, nat_tests)
 ends start (suc j) k v (b ∷ l) n end e r =
     let q = only_where (ltb k 5 && ltb b 256) _ _ r in
     let byte : b < 256 = ltb-true b 256 (and_parts (ltb k 5) (ltb b 256) q.0).1 in

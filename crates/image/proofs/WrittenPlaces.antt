@@ -1,6 +1,7 @@
 -- A kind, a target or an operand is read exactly where its written form stands. Assumes nothing.
-use Rattle.std.proofs.Common.{◌≡◌, ℕ, ◌+◌, ◌-◌, ◌<◌, ◌≤◌, Bool, true, false, cond, ◌&&◌, eqb, ltb, leb, List, Some, None, Option, refl, ap, ◌∙◌, subst, subst₂, arith}
-use Rattle.std.proofs.lemmas.Bool.{and_parts, and_from, and_left, lt-ltb, le-ltb, le-leb, ltb-true, leb-true, eqb-true, cond-true, cond-false}
+use Rattle.std.proofs.Common.{◌≡◌, ℕ, ◌+◌, ◌≤◌, Bool, true, ltb, List, Some, refl, ap, subst₂, arith}
+use Rattle.std.proofs.lemmas.Bool.{le-leb, leb-true}
+use Rattle.std.proofs.lemmas.Bool.Decides.{nat_tests}
 use Rattle.transaction.specs.declared.statement.Operand.{Operand}
 use Rattle.transaction.specs.declared.statement.Operand.TheVariants.{Field, State, Constant}
 use Rattle.transaction.specs.declared.statement.Target.{Target}
@@ -13,29 +14,12 @@ use Rattle.transaction.specs.Statements.{placed, kinded}
 use Rattle.transaction.specs.WellFormed.{has, has_target}
 use Rattle.image.specs.Reading.{got, named, kind_at, place_at, target_of, target_at, operand_of, operand_at}
 use Rattle.image.specs.Writing.{number, kind_number, written_target, written_operand}
-use Rattle.image.proofs.GoodReads.{refused_not, carried, named_some, next_case, next_from}
+use Rattle.image.proofs.GoodReads.{carried, named_some, next_case, next_from}
 use Rattle.image.proofs.Spans.{Spans, spans_join, spans_split}
 use Rattle.image.proofs.WrittenNumbers.{number_from, number_to}
 
-some_same : {A : Type 0} {x y : A} → Some x ≡ Some y → x ≡ y
-some_same e = cc
-
-none_not : {A : Type 0} {x : A} → None ≡ Some x → ⊥
-none_not e = let z : ◌≡◌ {A = ℕ} 0 1 = cc in omega arith
-
--- The number of a kind.
-module _ (n : ℕ) (k : Kind) where
-  -- the test for one kind, before the others
-  kind_or : (this : Kind) (others : Option Kind) → (others ≡ Some k → n ≡ kind_number k) → cond (eqb n (kind_number this)) (Some this) others ≡ Some k → n ≡ kind_number k
-  kind_or this others h e = go (eqb n (kind_number this)) refl e
-    where
-      go : (u : Bool) → eqb n (kind_number this) ≡ u → cond u (Some this) others ≡ Some k → n ≡ kind_number k
-      go true t e = eqb-true n (kind_number this) t ∙ ap kind_number (some_same e)
-      go false t e = h e
-
-  kinded_to : kinded n ≡ Some k → n ≡ kind_number k
-  kinded_to =
-      kind_or Copy _ (kind_or Add _ (kind_or Sub _ (kind_or Less _ (kind_or Equal _ (kind_or Choose _ (kind_or If _ (kind_or Else _ (kind_or End _ (λ e. absurd (none_not e))))))))))
+kinded_to : (n : ℕ) (k : Kind) → kinded n ≡ Some k → n ≡ kind_number k
+kinded_to n k e = grind (arith, nat_tests)
 
 kinded_from : (k : Kind) → (kinded (kind_number k) ≡ Some k) × (kind_number k ≤ 8)
 kinded_from Copy = (refl, omega arith)
@@ -71,30 +55,13 @@ has_place f s (AtState k) = ltb k s
 has_place f s AtConstant = true
 
 placed_to : (f s n : ℕ) (p : Place) → placed f s n ≡ Some p → (n ≡ place_number p) × (has_place f s p ≡ true)
-placed_to f s n p e = go (ltb n 16 && ltb n f) (leb 16 n && (ltb n 24 && ltb (n - 16) s)) (eqb n 24) refl refl refl e
-  where
-    Goal : Place → Type 0
-    Goal q = (n ≡ place_number q) × (has_place f s q ≡ true)
-
-    go : (u v w : Bool) → (ltb n 16 && ltb n f) ≡ u → (leb 16 n && (ltb n 24 && ltb (n - 16) s)) ≡ v → eqb n 24 ≡ w → cond u (Some (AtField n)) (cond v (Some (AtState (n - 16))) (cond w (Some AtConstant) None)) ≡ Some p → Goal p
-    go true v w x y z e = subst Goal (some_same e) (refl, (and_parts (ltb n 16) (ltb n f) x).1)
-    go false true w x y z e =
-        let h = and_parts (leb 16 n) (ltb n 24 && ltb (n - 16) s) y in
-        subst Goal (some_same e) (omega (arith, leb-true 16 n h.0), (and_parts (ltb n 24) (ltb (n - 16) s) h.1).1)
-    go false false true x y z e = subst Goal (some_same e) (eqb-true n 24 z, refl)
-    go false false false x y z e = absurd (none_not e)
+placed_to f s n (AtField i) e = ((grind (arith, nat_tests)), (grind (arith, nat_tests)))
+placed_to f s n (AtState k) e = ((grind (arith, nat_tests)), (grind (arith, nat_tests)))
+placed_to f s n AtConstant e = ((grind (arith, nat_tests)), refl)
 
 placed_from : (f s : ℕ) (p : Place) → f ≤ 16 → s ≤ 8 → has_place f s p ≡ true → (placed f s (place_number p) ≡ Some p) × (place_number p ≤ 24)
-placed_from f s (AtField i) few fewer h = let l : i < f = ltb-true i f h in (cond-true _ _ _ (and_from _ _ (lt-ltb i 16 (omega arith)) h), omega arith)
-placed_from f s (AtState k) few fewer h =
-    let l : k < s = ltb-true k s h in
-    let same : 16 + k - 16 ≡ k = omega arith in
-    let there : ltb (16 + k - 16) s ≡ true = ap (λ (x : ℕ). ltb x s) same ∙ h in (
-      cond-false _ _ _ (and_left (ltb (16 + k) 16) (ltb (16 + k) f) (le-ltb (16 + k) 16 (omega arith)))
-          ∙ cond-true _ _ _ (and_from _ _ (le-leb 16 (16 + k) (omega arith)) (and_from _ _ (lt-ltb (16 + k) 24 (omega arith)) there))
-          ∙ ap (λ (x : ℕ). Some (AtState x)) same,
-      omega arith,
-    )
+placed_from f s (AtField i) few fewer h = ((grind (arith, nat_tests)), (grind (arith, nat_tests)))
+placed_from f s (AtState k) few fewer h = ((grind (arith, nat_tests)), (grind (arith, nat_tests)))
 placed_from f s AtConstant few fewer h = (refl, omega arith)
 
 module _ (bs : List ℕ) (f s : ℕ) where
@@ -123,7 +90,7 @@ module _ (bs : List ℕ) (f s : ℕ) where
       go : (p : Place) (mid : ℕ) → PlaceAt bs f s at p mid → target_of at p mid ≡ got t end → TargetAt bs f s at t end
       go (AtField i) mid p e = carried (TargetAt bs f s at) e p
       go (AtState k) mid p e = carried (TargetAt bs f s at) e p
-      go AtConstant mid p e = absurd (refused_not e)
+      go AtConstant mid p e = cc
 
   pub operand_to : {at : ℕ} {a : Operand} {end : ℕ} → operand_at f s bs at ≡ got a end → OperandAt bs f s at a end
   operand_to {at} {a} {end} e =

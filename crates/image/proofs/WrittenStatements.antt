@@ -1,5 +1,5 @@
 -- Statements are read exactly where their written forms stand. Assumes nothing.
-use Rattle.std.proofs.Common.{◌≡◌, ℕ, zero, suc, ◌≤◌, Bool, true, ◌&&◌, List, [], ◌∷◌, ◌++◌, length, sym, refl, ap, ◌∙◌, subst, append_assoc, append-nil}
+use Rattle.std.proofs.Common.{◌≡◌, ℕ, zero, suc, ◌≤◌, Bool, true, ◌&&◌, List, [], ◌∷◌, ◌++◌, length, sym, refl, ap, ◌∙◌, subst, append_assoc, append-nil, arith}
 use Rattle.std.proofs.lemmas.Bool.{and_parts, and_from, not-true, not_from_false, cond-true, cond-false}
 use Rattle.transaction.specs.declared.statement.Operand.{Operand}
 use Rattle.transaction.specs.declared.statement.Target.{Target}
@@ -47,9 +47,7 @@ module _ (bs : List ℕ) (f s : ℕ) where
   choose_at t c a b p q =
       let x = spans_split bs (written_target t) (written_operand c ++ written_operand a) p.0 in
       let y = spans_split bs (written_operand c) (written_operand a) x.1 in
-      let h = and_parts (has_target f s t) (has f s c && has f s a) p.1 in
-      let i = and_parts (has f s c) (has f s a) h.1 in
-      (spans_join bs x.0 (spans_join bs y.0 (spans_join bs y.1 q.0)), and_from _ _ h.0 (and_from _ _ i.0 (and_from _ _ i.1 q.1)), refl)
+      (spans_join bs x.0 (spans_join bs y.0 (spans_join bs y.1 q.0)), (grind arith), refl)
 
   rest_to : (k : Kind) {at : ℕ} {x : Statement} {end : ℕ} → rest_at k f s bs at ≡ got x end → RestAt bs f s k at x end
   rest_to KCopy {at} e =
@@ -78,11 +76,9 @@ module _ (bs : List ℕ) (f s : ℕ) (few : f ≤ 16) (fewer : s ≤ 8) where
   pair_from {at} t a b {end} p =
       let x = spans_split bs (written_target t) (written_operand a ++ written_operand b) p.0 in
       let y = spans_split bs (written_operand a) (written_operand b) x.1 in
-      let h = and_parts (has_target f s t) (has f s a && has f s b) p.1 in
-      let i = and_parts (has f s a) (has f s b) h.1 in
-      next_from _ (target_from bs f s few fewer t (x.0, h.0))
-      (next_from _ (operand_from bs f s few fewer a (y.0, i.0))
-      (next_from _ (operand_from bs f s few fewer b (y.1, i.1)) refl))
+      next_from _ (target_from bs f s few fewer t (x.0, (grind arith)))
+      (next_from _ (operand_from bs f s few fewer a (y.0, (grind arith)))
+      (next_from _ (operand_from bs f s few fewer b (y.1, (grind arith))) refl))
 
   of_pair_from : (make : Target → Operand → Operand → Statement) {at : ℕ} (t : Target) (a b : Operand) {end : ℕ} → PairAt bs f s at (t, a, b) end → pair_of make f s bs at ≡ got (make t a b) end
   of_pair_from make t a b p = next_from _ (pair_from t a b p) refl
@@ -90,9 +86,8 @@ module _ (bs : List ℕ) (f s : ℕ) (few : f ≤ 16) (fewer : s ≤ 8) where
   rest_from : {at : ℕ} (x : Statement) {end : ℕ} → Spans bs at (written_rest x) end → has_all f s x ≡ true → rest_at (kind_of x) f s bs at ≡ got x end
   rest_from (Copy t a) p e =
       let x = spans_split bs (written_target t) (written_operand a) p in
-      let h = and_parts (has_target f s t) (has f s a) e in
-      next_from _ (target_from bs f s few fewer t (x.0, h.0))
-      (next_from _ (operand_from bs f s few fewer a (x.1, h.1)) refl)
+      next_from _ (target_from bs f s few fewer t (x.0, (grind arith)))
+      (next_from _ (operand_from bs f s few fewer a (x.1, (grind arith))) refl)
   rest_from (Add t a b) p e = of_pair_from (λ t a b. Add t a b) t a b (p, e)
   rest_from (Sub t a b) p e = of_pair_from (λ t a b. Sub t a b) t a b (p, e)
   rest_from (Less t a b) p e = of_pair_from (λ t a b. Less t a b) t a b (p, e)
@@ -101,12 +96,9 @@ module _ (bs : List ℕ) (f s : ℕ) (few : f ≤ 16) (fewer : s ≤ 8) where
       let x = spans_split bs (written_target t) (written_operand c ++ (written_operand a ++ written_operand b)) p in
       let y = spans_split bs (written_operand c) (written_operand a ++ written_operand b) x.1 in
       let z = spans_split bs (written_operand a) (written_operand b) y.1 in
-      let h = and_parts (has_target f s t) (has f s c && (has f s a && has f s b)) e in
-      let i = and_parts (has f s c) (has f s a && has f s b) h.1 in
-      let j = and_parts (has f s a) (has f s b) i.1 in
       next_from _
-      (pair_from t c a (spans_join bs x.0 (spans_join bs y.0 z.0), and_from _ _ h.0 (and_from _ _ i.0 j.0)))
-      (next_from _ (operand_from bs f s few fewer b (z.1, j.1)) refl)
+      (pair_from t c a (spans_join bs x.0 (spans_join bs y.0 z.0), (grind arith)))
+      (next_from _ (operand_from bs f s few fewer b (z.1, (grind arith))) refl)
   rest_from (If c) p e = next_from _ (operand_from bs f s few fewer c (p, e)) refl
   rest_from Else p e = ap (got Else) (none_spans bs p)
   rest_from End p e = ap (got End) (none_spans bs p)

@@ -1,3 +1,4 @@
 pub mod Reading
+pub mod Reads
 pub mod Writing
 pub mod Theorem

@@ -5,17 +5,12 @@ ghost use Rattle.line_graph.specs.Edges.{pairs, edge};
 
 use graph::Graph;
 use lines::{Line, Lines, Source};
-use word::at;
 
 // Whether a source is line n.
 pub fn is_line(source: Source, n: usize) -> bool
     ensures { result ≡ is_line n source }
 {
-    match source {
-        Source::Field(_) => false,
-        Source::Line(m) => m as usize == n,
-        Source::Constant(_) => false,
-    }
+    matches!(source, Source::Line(m) if usize::from(m) == n)
 }
 
 // Whether a line reads line n.
@@ -24,13 +19,11 @@ pub fn reads(line: Line, n: usize) -> bool
 {
     match line {
         Line::Read(_) => false,
-        Line::Copy(a) => is_line(a, n),
-        Line::Add(a, b) => is_line(a, n) || is_line(b, n),
-        Line::Sub(a, b) => is_line(a, n) || is_line(b, n),
-        Line::Less(a, b) => is_line(a, n) || is_line(b, n),
-        Line::Equal(a, b) => is_line(a, n) || is_line(b, n),
+        Line::Copy(a) | Line::Write(_, a) => is_line(a, n),
+        Line::Add(a, b) | Line::Sub(a, b) | Line::Less(a, b) | Line::Equal(a, b) => {
+            is_line(a, n) || is_line(b, n)
+        }
         Line::Choose(c, a, b) => is_line(c, n) || is_line(a, n) || is_line(b, n),
-        Line::Write(_, a) => is_line(a, n),
     }
 }
 
@@ -38,24 +31,14 @@ pub fn reads(line: Line, n: usize) -> bool
 pub fn is_plain(line: Line) -> bool
     ensures { result ≡ is_plain line }
 {
-    match line {
-        Line::Read(_) => false,
-        Line::Write(_, _) => false,
-        _ => true,
-    }
+    !matches!(line, Line::Read(_) | Line::Write(..))
 }
 
 // Whether the first is a state's read line and the second its write line.
 fn is_pair(first: Line, second: Line) -> bool
     ensures { result ≡ pairs first second }
 {
-    match first {
-        Line::Read(s) => match second {
-            Line::Write(t, _) => t == s,
-            _ => false,
-        },
-        _ => false,
-    }
+    matches!((first, second), (Line::Read(s), Line::Write(t, _)) if s == t)
 }
 
 // The graph of the lines: an edge runs from a line to each line that reads it, and both ways between a state's read line and its write line.
@@ -72,8 +55,8 @@ impl<'a> Graph for LineGraph<'a> {
     }
 
     fn edge(&self, a: usize, b: usize) -> bool {
-        let from = at(&self.0.lines, a, Line::Read(0));
-        let to = at(&self.0.lines, b, Line::Read(0));
+        let from = self.0.line(a);
+        let to = self.0.line(b);
         reads(to, a) || is_pair(from, to) || is_pair(to, from)
     }
 }

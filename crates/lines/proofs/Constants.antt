@@ -1,9 +1,9 @@
 -- The constants that lines read are words, and so is every value. Assumes nothing.
 use Rattle.std.proofs.Common.{◌≡◌, ℕ, zero, suc, ◌<◌, ◌≤◌, Bool, true, false, cond, ◌&&◌, eqb, ltb, ◌⊎◌, List, [], ◌∷◌, ◌++◌, map, length, get_or, sym, subst, inl, inr, arith}
-use Rattle.std.specs.List.{AllByRecursion}
+use Rattle.std.specs.List.{All, AllByRecursion}
 use Rattle.std.proofs.lemmas.List.{length_push, get_or_push, get_or_append_left, get_or_past}
 use Rattle.std.proofs.lemmas.Bool.{and_parts, cases_lt, cases_eq, leb-true}
-use Rattle.std.proofs.ByRecursion.{All-push, All-append}
+use Rattle.std.proofs.lemmas.List.Elements.{All-head, All-tail, All-push, All-append}
 use Rattle.word.specs.Words.{Word, truth, bit}
 use Rattle.transaction.specs.declared.statement.Operand.{Operand}
 use Rattle.transaction.specs.declared.statement.Operand.TheVariants.{Field, State, Constant}
@@ -38,9 +38,9 @@ pub record Fit (d : Draft) : Type 0 where
   pub fields : (i : ℕ) → Fits (get_or d.latest.fields i (Fixed 0))
   pub states : (s : ℕ) → Fits (get_or d.latest.states s (Fixed 0))
   pub nest : AllByRecursion (λ (f : Frame Source). Fits f.on) d.nest
-  pub lines : AllByRecursion LineFits d.lines
+  pub lines : All LineFits d.lines
 
-guarded_fit : (frames : List (Frame Source)) (old : Source) (ls : List Line) → AllByRecursion (λ (f : Frame Source). Fits f.on) frames → Fits old → AllByRecursion LineFits ls → AllByRecursion LineFits (guarded frames old ls)
+guarded_fit : (frames : List (Frame Source)) (old : Source) (ls : List Line) → AllByRecursion (λ (f : Frame Source). Fits f.on) frames → Fits old → All LineFits ls → All LineFits (guarded frames old ls)
 guarded_fit [] old ls c o w = w
 guarded_fit (f ∷ frames) old ls c o w =
     let l : Line = choose_for f (last ls) old in
@@ -113,7 +113,7 @@ start_fit ms = record { fields = λ i. come 16 0 i; states = λ s. firsts_fit 0 
 pub body_fit : (f s : ℕ) (xs : List Statement) → within f s xs ≡ true → Fit (body_of xs)
 body_fit f s xs e = all_fit f s xs (start (named_of xs)) (start_fit (named_of xs)) e
 
-pub lines_fit : (f s : ℕ) (xs : List Statement) → within f s xs ≡ true → AllByRecursion LineFits (lines_of xs)
+pub lines_fit : (f s : ℕ) (xs : List Statement) → within f s xs ≡ true → All LineFits (lines_of xs)
 lines_fit f s xs e =
     let w : Fit (body_of xs) = body_fit f s xs e in
     All-append LineFits (body_of xs).lines _ w.lines (mapped LineFits (write_line (body_of xs).latest.states) (states_from 0 (named_of xs)) (λ k. (w.states k, tt)))
@@ -152,6 +152,6 @@ module _ (plus minus : ℕ → ℕ → ℕ) (v : Values) (sums : (a b : ℕ) →
       go (inl k) = subst Word (sym (get_or_append_left vs (x ∷ []) 0 n k)) (w n)
       go (inr k) = late (cases_eq n (length vs)) k
 
-  pub worked_words : (ls : List Line) (vs : List ℕ) → Words vs → AllByRecursion LineFits ls → Words (worked_on plus minus v ls vs)
+  pub worked_words : (ls : List Line) (vs : List ℕ) → Words vs → All LineFits ls → Words (worked_on plus minus v ls vs)
   worked_words [] vs w u = w
-  worked_words (l ∷ ls) vs w u = worked_words ls (vs ++ (makes plus minus v vs l ∷ [])) (push_word vs _ w (makes_word vs w l u.0)) u.1
+  worked_words (l ∷ ls) vs w u = worked_words ls (vs ++ (makes plus minus v vs l ∷ [])) (push_word vs _ w (makes_word vs w l (All-head LineFits l ls u))) (All-tail LineFits l ls u)

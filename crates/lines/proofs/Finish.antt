@@ -1,7 +1,8 @@
 -- A builder that has made all lines holds the definition's list. Assumes nothing.
-use Rattle.std.proofs.Common.{◌≡◌, ℕ, zero, suc, ◌-◌, ◌<◌, ◌≤◌, Bool, true, false, ◌⊎◌, List, [], ◌∷◌, ◌++◌, length, get_or, take, sym, refl, ap, ◌∙◌, ap₂, inl, inr, zero-add, arith, length-take-le}
-use Rattle.std.proofs.lemmas.List.{get_or-map, get_or_past}
-use Rattle.std.proofs.lemmas.Bool.{both_ways, cases_lt, or_cases, or_left, or_right}
+use Rattle.std.proofs.Common.{◌≡◌, ℕ, suc, ◌-◌, ◌<◌, ◌≤◌, Bool, true, false, ◌⊎◌, List, [], ◌∷◌, ◌++◌, length, get_or, take, sym, refl, ap, ◌∙◌, ap₂, inl, inr, zero-add, arith, length-take-le}
+use Rattle.std.proofs.lemmas.List.{length-map, get_or-map, get_or_past}
+use Rattle.std.proofs.lemmas.List.Recursion.{or_at}
+use Rattle.std.proofs.lemmas.Bool.{both_ways, cases_lt, or_cases}
 use Rattle.transaction.specs.declared.statement.Statement.{Statement}
 use Rattle.transaction.specs.declared.statement.Statement.TheVariants.{End}
 use Rattle.lines.specs.declared.line.Line.{Line}
@@ -11,12 +12,11 @@ use Rattle.lines.specs.Named.{names, some_names, up_from, named_of, amount}
 use Rattle.lines.specs.Build.{Draft, start, adds_all, write_lines, body_of, lines_of, finals_of, updates_of, numbered}
 use Rattle.lines.specs.View.{draft_of}
 use Rattle.lines.specs.Exact.{Exactly}
-use Rattle.lines.proofs.Loops.{up_at, up_long}
-use Rattle.lines.proofs.Places.{mapped_long}
+use Rattle.lines.proofs.Numbers.{up_at, up_long}
 use Rattle.lines.proofs.Table.{Laid, laid, lines_long}
 
 pub named_long : (xs : List Statement) → length (named_of xs) ≡ 8
-named_long xs = mapped_long (λ (s : ℕ). some_names s xs) (up_from 8 0) ∙ up_long 8 0
+named_long xs = length-map (up_from 8 0) (λ (s : ℕ). some_names s xs) ∙ up_long 8 0
 
 -- a state's mark
 pub mark : (xs : List Statement) (s : ℕ) → s < 8 → get_or (named_of xs) s false ≡ some_names s xs
@@ -34,9 +34,7 @@ naming s (x ∷ xs) e = go (naming s xs) (or_cases (names s x) (some_names s xs)
     go later (inr h) = let p = later h in (suc p.0, omega (arith, p.1), p.2)
 
 pub someone : (s n : ℕ) (xs : List Statement) → n < length xs → names s (get_or xs n End) ≡ true → some_names s xs ≡ true
-someone s n [] h e = absurd (omega arith)
-someone s zero (x ∷ xs) h e = or_left (names s x) _ e
-someone s (suc n) (x ∷ xs) h e = or_right (names s x) (some_names s xs) (someone s n xs (omega arith) e)
+someone s n xs h e = or_at (some_names s) (names s) refl (λ x ys. refl) xs n End h e
 
 pub marked_named : (xs : List Statement) (s : ℕ) → get_or (named_of xs) s false ≡ true → some_names s xs ≡ true
 marked_named xs s e = go (cases_lt s 8)

@@ -4,9 +4,10 @@ pub mod Constants
 pub mod Finish
 pub mod Guards
 pub mod InOrder
-pub mod Loops
+pub mod Made
 pub mod Meant
 pub mod Naming
+pub mod Numbers
 pub mod OneTable
 pub mod Order
 pub mod Places

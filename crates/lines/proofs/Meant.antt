@@ -1,6 +1,6 @@
 -- Lines leave what the statements leave. Assumes nothing.
 use Rattle.std.proofs.Common.{◌≡◌, ℕ, zero, suc, ◌<◌, ◌≤◌, Bool, true, false, cond, ◌⊎◌, List, [], ◌∷◌, map, length, get_or, take, sym, refl, ap, ◌∙◌, subst, ap₂, inl, inr, arith, length-take-le, ext_get_or}
-use Rattle.std.specs.List.{AllByRecursion}
+use Rattle.std.specs.List.{All}
 use Rattle.std.proofs.lemmas.List.{length-map, get_or-map, get_or-take}
 use Rattle.std.proofs.lemmas.Bool.{cases_Bool, cond-true, cond-false}
 use Rattle.word.specs.Words.{Word}
@@ -131,7 +131,7 @@ states_there t r e s n = named_there t.fields t.states s (statements_of t) t.in_
 pub makes_words : (t : Transaction) (r : Lines) → Exactly (statements_of t) r → MakesWords r
 makes_words t r e plus minus v sums differences incoming met =
     let fit : Fit (body_of (statements_of t)) = body_fit t.fields t.states (statements_of t) t.in_place in
-    let all : AllByRecursion LineFits (take r.count r.lines) = subst (AllByRecursion LineFits) (sym e.lines) (lines_fit t.fields t.states (statements_of t) t.in_place) in
+    let all : All LineFits (take r.count r.lines) = subst (All LineFits) (sym e.lines) (lines_fit t.fields t.states (statements_of t) t.in_place) in
     let made : (n : ℕ) → Word (get_or (worked_out plus minus r v) n 0) = worked_words plus minus v sums differences incoming met (take r.count r.lines) [] (λ n. omega arith) all in
     record { lines = made; finals = λ i. value_word plus minus v sums differences incoming met (worked_out plus minus r v) made _ (subst (λ (l : List Source). Fits (get_or l i (Fixed 0))) (sym e.finals) (fit.fields i)) }
 

@@ -1,23 +1,16 @@
--- Which states are named: one statement more, and what a mark says. Assumes nothing.
-use Rattle.std.proofs.Common.{◌≡◌, ℕ, ◌+◌, ◌<◌, Bool, true, false, ◌&&◌, ◌||◌, List, [], ◌∷◌, length, get_or, take, drop, sym, refl, ap, ◌∙◌, ⊎_elim, arith}
-use Rattle.std.proofs.lemmas.Bool.{and_parts, both_ways, eqb-true, ltb-true, or_cases, or_left}
+-- Which states are named. Assumes nothing.
+use Rattle.std.proofs.Common.{◌≡◌, ℕ, ◌<◌, Bool, true, false, ◌&&◌, ◌||◌, List, [], ◌∷◌, refl, ap, ⊎_elim, arith}
+use Rattle.std.proofs.lemmas.Bool.{and_parts, both_ways, eqb-true, ltb-true, or_cases}
 use Rattle.transaction.specs.declared.statement.Operand.{Operand}
 use Rattle.transaction.specs.declared.statement.Operand.TheVariants.{Field, State, Constant}
 use Rattle.transaction.specs.declared.statement.Target.{Target}
 use Rattle.transaction.specs.declared.statement.Target.TheVariants.{Field as ToField, State as ToState}
 use Rattle.transaction.specs.declared.statement.Statement.TheVariants.{Copy, Add, Sub, Less, Equal, Choose, If, Else, End}
-use Rattle.transaction.proofs.Fronts.{left_at}
 use Rattle.transaction.specs.Statements.{target_operand}
 use Rattle.transaction.specs.WellFormed.{has, has_target, has_all, within}
 use Rattle.transaction.specs.declared.statement.Statement.{Statement}
-use Rattle.lines.specs.Named.{is_state, names, some_names}
-
-module _ (s : ℕ) (l : List Statement) (n i : ℕ) (d : Statement) (room : i < length l) (within : i < n) where
-  pub named_here : true ≡ names s (get_or l i d) → true ≡ some_names s (drop i (take n l))
-  named_here e = sym (ap (some_names s) (left_at l n i d room within) ∙ or_left (names s (get_or l i d)) _ (sym e))
-
-  pub not_here : false ≡ names s (get_or l i d) → some_names s (drop (i + 1) (take n l)) ≡ some_names s (drop i (take n l))
-  not_here e = ap (λ (b : Bool). b || some_names s (drop (i + 1) (take n l))) e ∙ sym (ap (some_names s) (left_at l n i d room within))
+use Rattle.std.specs.List.{list_any}
+use Rattle.lines.specs.Named.{is_state, names, any_of, some_names}
 
 -- a state that a statement names is there where all that it names is there
 module _ (f n s : ℕ) where
@@ -55,3 +48,8 @@ module _ (f n s : ℕ) where
   pub named_there : (xs : List Statement) → within f n xs ≡ true → some_names s xs ≡ true → s < n
   named_there [] h e = absurd (both_ways false refl e)
   named_there (x ∷ xs) h e = one_of (has_all f n x) (within f n xs) (names s x) (some_names s xs) (statement_there x) (named_there xs) h e
+
+-- std's word for the same
+pub any_of-list_any : {A : Type 0} (p : A → Bool) (xs : List A) → any_of p xs ≡ list_any p xs
+any_of-list_any p [] = refl
+any_of-list_any p (x ∷ xs) = ap (λ b. p x || b) (any_of-list_any p xs)

@@ -1,8 +1,8 @@
 -- The lines of the statements follow the read lines, and each reads only lower lines. Assumes nothing.
 use Rattle.std.proofs.Common.{◌≡◌, ℕ, zero, suc, ◌+◌, ◌<◌, ◌≤◌, true, false, cond, List, [], ◌∷◌, ◌++◌, length, get_or, set, sym, refl, ap, ◌∙◌, append_assoc, add-zero, arith}
-use Rattle.std.specs.List.{AllByRecursion}
+use Rattle.std.specs.List.{AllByRecursion, AllPass}
 use Rattle.std.proofs.lemmas.List.{length_push}
-use Rattle.std.proofs.ByRecursion.{All-weaker, All-push}
+use Rattle.std.proofs.lemmas.List.Elements.{All-push}
 use Rattle.transaction.specs.declared.statement.Operand.{Operand}
 use Rattle.transaction.specs.declared.statement.Operand.TheVariants.{Field, State, Constant}
 use Rattle.transaction.specs.declared.statement.Target.{Target}
@@ -24,7 +24,8 @@ abbrev pub ConditionsUnder : ℕ → List (Frame Source) → Type 0
 ConditionsUnder n frames = AllByRecursion (λ (f : Frame Source). Under n f.on) frames
 
 pub conditions_up : (n m : ℕ) (frames : List (Frame Source)) → n ≤ m → ConditionsUnder n frames → ConditionsUnder m frames
-conditions_up n m frames h = All-weaker _ _ (λ f. under_up n m f.on h) frames
+conditions_up n m [] h c = tt
+conditions_up n m (f ∷ frames) h c = (under_up n m f.on h c.0, conditions_up n m frames h c.1)
 
 pub guarded_long : (frames : List (Frame Source)) (old : Source) (ls : List Line) → length (guarded frames old ls) ≡ length ls + length frames
 guarded_long [] old ls = sym (add-zero (length ls))
@@ -58,7 +59,7 @@ module _ (r : List Line) where
     pub ordered : Ordered ls
     pub rest : List Line
     pub front : ls ≡ r ++ rest
-    pub plain : AllByRecursion (λ (l : Line). is_plain l ≡ true) rest
+    pub plain : AllPass is_plain rest
 
   good_push : (ls : List Line) (l : Line) → Good ls → AllByRecursion (Under (length ls)) (sources_of l) → is_plain l ≡ true → Good (ls ++ (l ∷ []))
   good_push ls l g u p =

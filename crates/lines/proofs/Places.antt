@@ -1,16 +1,18 @@
 -- The numbers of read lines and of write lines. Assumes nothing.
 use Rattle.std.proofs.Common.{◌≡◌, ℕ, zero, suc, ◌+◌, ◌<◌, ◌≤◌, Bool, true, false, List, [], ◌∷◌, ◌++◌, map, length, get_or, sym, refl, ap, ◌∙◌, append_assoc, append-nil, add-zero, zero-add, arith}
-use Rattle.std.specs.List.{AllByRecursion}
-use Rattle.std.proofs.lemmas.List.{length_push, get_or_push, get_or_append_left, get_or-map}
+use Rattle.std.specs.List.{All}
+use Rattle.std.proofs.lemmas.List.Elements.{All-nil, All-map}
+use Rattle.std.proofs.lemmas.List.{length_push, get_or_push, get_or_append_left, get_or-map, length-map}
 use Rattle.std.proofs.lemmas.Bool.{both_ways}
 use Rattle.transaction.specs.declared.statement.Operand.{Operand}
 use Rattle.transaction.specs.declared.statement.Operand.TheVariants.{Field, State, Constant}
 use Rattle.lines.specs.declared.line.Source.TheVariants.{Field as Incoming, Line as Made, Constant as Fixed}
+use Rattle.lines.specs.declared.line.Line.{Line}
 use Rattle.lines.specs.declared.line.Line.TheVariants.{Read}
 use Rattle.lines.specs.Named.{up_from, states_from, amount}
 use Rattle.lines.specs.Build.{source_of, read_lines, firsts, start, numbered}
-use Rattle.lines.specs.Layout.{reads_line}
-use Rattle.lines.proofs.Loops.{up_at, up_long}
+use Rattle.lines.specs.Layout.{reads_line, is_plain}
+use Rattle.lines.proofs.Numbers.{up_at, up_long}
 use Rattle.lines.proofs.Sources.{Under, under_up}
 use Rattle.lines.proofs.Order.{Low}
 
@@ -19,14 +21,9 @@ states_long s [] = refl
 states_long s (true ∷ ms) = ap suc (states_long (suc s) ms)
 states_long s (false ∷ ms) = states_long (suc s) ms
 
-pub mapped_long : {X : Type 0} (f : ℕ → X) (ns : List ℕ) → length (map f ns) ≡ length ns
-mapped_long f [] = refl
-mapped_long f (n ∷ ns) = ap suc (mapped_long f ns)
-
 -- what f gives is such for each number
-pub mapped : {X : Type 0} (P : X → Type 0) (f : ℕ → X) (ns : List ℕ) → ((n : ℕ) → P (f n)) → AllByRecursion P (map f ns)
-mapped P f [] h = tt
-mapped P f (n ∷ ns) h = (h n, mapped P f ns h)
+pub mapped : {X : Type 0} (P : X → Type 0) (f : ℕ → X) (ns : List ℕ) → ((n : ℕ) → P (f n)) → All P (map f ns)
+mapped P f ns h = All-map P f ns (λ k d _. h (get_or ns k d))
 
 pub firsts_long : (n : ℕ) (ms : List Bool) → length (firsts n ms) ≡ length ms
 firsts_long n [] = refl
@@ -95,12 +92,12 @@ read_nothing (s ∷ ns) zero m = refl
 read_nothing (s ∷ ns) (suc n) m = read_nothing ns n m
 
 pub reads_long : (ms : List Bool) → length (read_lines ms) ≡ amount ms
-reads_long ms = mapped_long Read (states_from 0 ms) ∙ states_long 0 ms
+reads_long ms = length-map (states_from 0 ms) Read ∙ states_long 0 ms
 
 pub start_low : (ms : List Bool) → Low (read_lines ms) (start ms)
 start_low ms =
     record {
-      good = record { ordered = λ n m h e. absurd (both_ways _ (read_nothing (states_from 0 ms) n m) e); rest = []; front = sym (append-nil (read_lines ms)); plain = tt };
+      good = record { ordered = λ n m h e. absurd (both_ways _ (read_nothing (states_from 0 ms) n m) e); rest = []; front = sym (append-nil (read_lines ms)); plain = All-nil (λ (l : Line). is_plain l ≡ true) };
       latest = under;
       nest = tt;
     }

@@ -3,7 +3,6 @@ use Rattle.std.proofs.Common.{◌≡◌, ℕ, ◌<◌, ◌≤◌, true, false, �
 use Rattle.std.specs.List.{AllByRecursion}
 use Rattle.std.proofs.lemmas.List.{length_push, get_or_push, get_or_append_left}
 use Rattle.std.proofs.lemmas.Bool.{both_ways, or_cases, or_left, or_right, eqb-true, eq-eqb, cases_lt}
-use Rattle.std.proofs.ByRecursion.{All-weaker}
 use Rattle.lines.specs.declared.line.Source.{Source}
 use Rattle.lines.specs.declared.line.Source.TheVariants.{Field as Incoming, Line as Made, Constant as Fixed}
 use Rattle.lines.specs.declared.line.Line.{Line}
@@ -23,7 +22,8 @@ under_up n m (Made k) h u = omega arith
 under_up n m (Fixed c) h u = tt
 
 pub all_up : (n m : ℕ) (l : List Source) → n ≤ m → AllByRecursion (Under n) l → AllByRecursion (Under m) l
-all_up n m l h u = All-weaker (Under n) (Under m) (λ a. under_up n m a h) l u
+all_up n m [] h u = tt
+all_up n m (a ∷ l) h u = (under_up n m a h u.0, all_up n m l h u.1)
 
 -- the two ways to say it
 pub under_from : (n : ℕ) (a : Source) → ((m : ℕ) → is_line m a ≡ true → m < n) → Under n a

@@ -1,5 +1,6 @@
 -- One turn of a loop over the states, each named or not. Assumes nothing.
-use Rattle.std.proofs.Common.{◌≡◌, ℕ, ◌+◌, ◌<◌, ◌≤◌, Bool, true, false, List, [], ◌∷◌, ◌++◌, map, length, get_or, take, drop, set, sym, ap, ◌∙◌, append_assoc, append-nil, add-one, take_all}
+use Rattle.std.proofs.Common.{◌≡◌, ℕ, ◌+◌, ◌<◌, ◌≤◌, Bool, true, false, List, [], ◌∷◌, ◌++◌, map, length, get_or, take, drop, set, sym, ap, ◌∙◌, append_assoc, append-nil, add-zero, add-one, take_all, ⊎_elim, arith}
+use Rattle.std.proofs.lemmas.Bool.{cases_Bool}
 use Rattle.std.proofs.lemmas.List.{drop_more, drop_all, take_more_set}
 use Rattle.lines.specs.declared.line.Source.{Source}
 use Rattle.lines.specs.declared.line.Source.TheVariants.{Line as Made, Constant as Fixed}
@@ -29,11 +30,21 @@ module _ (N : List Bool) (s : ℕ) (h : s < length N) where
     unlisted e = sym (ap (λ (ms : List Bool). done ++ map f (states_from s ms)) (here false e) ∙ ap (λ (k : ℕ). done ++ map f (states_from k (drop (s + 1) N))) (sym (add-one s)))
 
   module _ (n : ℕ) where
-    pub numbered_named : (table : List ℕ) → s < length table → get_or N s false ≡ true → take (s + 1) (set table s n) ++ numbered (n + 1) (drop (s + 1) N) ≡ take s table ++ numbered n (drop s N)
+    numbered_named : (table : List ℕ) → s < length table → get_or N s false ≡ true → take (s + 1) (set table s n) ++ numbered (n + 1) (drop (s + 1) N) ≡ take s table ++ numbered n (drop s N)
     numbered_named table k e = filled table s n _ _ k (ap (numbered n) (here true e) ∙ ap (λ (m : ℕ). n ∷ numbered m (drop (s + 1) N)) (sym (add-one n)))
 
-    pub numbered_unnamed : (table : List ℕ) → s < length table → get_or N s false ≡ false → take (s + 1) (set table s n) ++ numbered n (drop (s + 1) N) ≡ take s table ++ numbered n (drop s N)
+    numbered_unnamed : (table : List ℕ) → s < length table → get_or N s false ≡ false → take (s + 1) (set table s n) ++ numbered n (drop (s + 1) N) ≡ take s table ++ numbered n (drop s N)
     numbered_unnamed table k e = filled table s n _ _ k (ap (numbered n) (here false e))
+
+    -- the next number is one more, or the same
+    pub numbered_on : (table : List ℕ) (m : ℕ) → s < length table → (get_or N s false ≡ true → m ≡ 1) → (get_or N s false ≡ false → m ≡ 0) → (m ≤ 1) × (take (s + 1) (set table s n) ++ numbered (n + m) (drop (s + 1) N) ≡ take s table ++ numbered n (drop s N))
+    numbered_on table m k one none =
+        let at : (j : ℕ) → m ≡ j → take (s + 1) (set table s n) ++ numbered (n + m) (drop (s + 1) N) ≡ take (s + 1) (set table s n) ++ numbered (n + j) (drop (s + 1) N) =
+        λ j e. ap (λ (i : ℕ). take (s + 1) (set table s n) ++ numbered (n + i) (drop (s + 1) N)) e in
+        ⊎_elim
+        (λ (t : get_or N s false ≡ true). let e : m ≡ 1 = one t in (omega arith, at 1 e ∙ numbered_named table k t))
+        (λ (f : get_or N s false ≡ false). let e : m ≡ 0 = none f in (omega arith, at 0 e ∙ ap (λ (i : ℕ). take (s + 1) (set table s n) ++ numbered i (drop (s + 1) N)) (add-zero n) ∙ numbered_unnamed table k f))
+        (cases_Bool (get_or N s false))
 
     pub first_named : (table : List Source) → s < length table → get_or N s false ≡ true → take (s + 1) (set table s (Made n)) ++ firsts (n + 1) (drop (s + 1) N) ≡ take s table ++ firsts n (drop s N)
     first_named table k e = filled table s (Made n) _ _ k (ap (firsts n) (here true e) ∙ ap (λ (m : ℕ). Made n ∷ firsts m (drop (s + 1) N)) (sym (add-one n)))

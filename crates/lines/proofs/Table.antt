@@ -1,8 +1,8 @@
 -- A transaction's lines in a table: read lines first, write lines last, and what they read. Assumes nothing.
 use Rattle.std.proofs.Common.{◌≡◌, ℕ, ◌+◌, ◌-◌, ◌<◌, ◌≤◌, Bool, true, List, [], ◌∷◌, ◌++◌, length, get_or, take, drop, sym, refl, ap, ◌∙◌, subst, append_assoc, append-nil, arith}
-use Rattle.std.specs.List.{AllByRecursion}
-use Rattle.std.proofs.lemmas.List.{length-append, length_push, get_or_append_left, get_or-append_right, get_or-take, take-take, take_at, drop_at}
-use Rattle.std.proofs.ByRecursion.{All-get_or, All-from_get_or, All-append}
+use Rattle.std.specs.List.{All, AllByRecursion}
+use Rattle.std.proofs.lemmas.List.{length-map, length-append, length_push, get_or_append_left, get_or-append_right, get_or-take, take-take, take_at, drop_at}
+use Rattle.std.proofs.lemmas.List.Elements.{All-head, All-tail, All-get_or, All-from_get_or, All-append}
 use Rattle.transaction.specs.declared.statement.Operand.TheVariants.{Field, State}
 use Rattle.transaction.specs.declared.statement.Statement.{Statement}
 use Rattle.lines.specs.declared.line.Source.{Source}
@@ -13,7 +13,7 @@ use Rattle.lines.specs.Build.{Draft, read_lines, write_line, write_lines, start,
 use Rattle.lines.specs.Layout.{sources_of, is_plain, Ordered, ReadsBelow, Below, Plain}
 use Rattle.lines.proofs.Sources.{Under, under_is, all_up, all_from, all_is, ordered_push}
 use Rattle.lines.proofs.Order.{Low, all_low}
-use Rattle.lines.proofs.Places.{mapped, states_long, mapped_long, reads_long, start_low}
+use Rattle.lines.proofs.Places.{mapped, states_long, reads_long, start_low}
 
 -- what holds of a transaction's lines
 pub record Laid (N : List Bool) (table : List Line) (count : ℕ) (finals updates : List Source) : Type 0 where
@@ -29,11 +29,11 @@ pub record Laid (N : List Bool) (table : List Line) (count : ℕ) (finals update
 abbrev Reading : ℕ → Line → Type 0
 Reading n l = AllByRecursion (Under n) (sources_of l)
 
-ordered_more : (ls ms : List Line) (w : ℕ) → w ≤ length ls → Ordered ls → AllByRecursion (Reading w) ms → Ordered (ls ++ ms)
+ordered_more : (ls ms : List Line) (w : ℕ) → w ≤ length ls → Ordered ls → All (Reading w) ms → Ordered (ls ++ ms)
 ordered_more ls [] w h o u = subst Ordered (sym (append-nil ls)) o
 ordered_more ls (m ∷ ms) w h o u =
     subst Ordered (append_assoc ls (m ∷ []) ms)
-    (ordered_more (ls ++ (m ∷ [])) ms w (omega (arith, length_push ls m)) (ordered_push ls m o (all_up w (length ls) (sources_of m) h u.0)) u.1)
+    (ordered_more (ls ++ (m ∷ [])) ms w (omega (arith, length_push ls m)) (ordered_push ls m o (all_up w (length ls) (sources_of m) h (All-head (Reading w) m ms u))) (All-tail (Reading w) m ms u))
 
 module _ (xs : List Statement) where
   abbrev body : Draft
@@ -46,7 +46,7 @@ module _ (xs : List Statement) where
   body_low = all_low (read_lines (named_of xs)) xs (start (named_of xs)) (start_low (named_of xs))
 
   writes_long : length writes ≡ amount (named_of xs)
-  writes_long = mapped_long (write_line (updates_of xs)) (states_from 0 (named_of xs)) ∙ states_long 0 (named_of xs)
+  writes_long = length-map (states_from 0 (named_of xs)) (write_line (updates_of xs)) ∙ states_long 0 (named_of xs)
 
   pub lines_long : length (lines_of xs) ≡ length body.lines + amount (named_of xs)
   lines_long = length-append body.lines writes ∙ ap (λ (n : ℕ). length body.lines + n) writes_long
@@ -57,13 +57,13 @@ module _ (xs : List Statement) where
   body_long : length body.lines ≡ amount (named_of xs) + length body_low.good.rest
   body_long = ap length reads_and_rest ∙ length-append (read_lines (named_of xs)) body_low.good.rest ∙ ap (λ (n : ℕ). n + length body_low.good.rest) (reads_long (named_of xs))
 
-  writes_under : AllByRecursion (Reading (length body.lines)) writes
+  writes_under : All (Reading (length body.lines)) writes
   writes_under = mapped (Reading (length body.lines)) (write_line (updates_of xs)) (states_from 0 (named_of xs)) (λ s. (body_low.latest (State s), tt))
 
   pub all_ordered : Ordered (lines_of xs)
   all_ordered = ordered_more body.lines writes (length body.lines) (omega arith) body_low.good.ordered writes_under
 
-  body_under : AllByRecursion (Reading (length body.lines)) body.lines
+  body_under : All (Reading (length body.lines)) body.lines
   body_under = All-from_get_or (Reading (length body.lines)) body.lines (Read 0) (λ n h. all_from (length body.lines) _ (λ m e. let r : m < n = body_low.good.ordered n m h e in omega arith))
 
   all_under : ReadsBelow (length body.lines) (lines_of xs)

@@ -1,5 +1,5 @@
 -- The values of lines, worked out one after another. Assumes nothing.
-use Rattle.std.proofs.Common.{◌≡◌, ℕ, zero, suc, ◌+◌, ◌<◌, List, [], ◌∷◌, ◌++◌, length, get_or, take, set, sym, refl, ap, ◌∙◌, subst, ap₂, append_assoc, append-nil, add-zero, zero-add, arith}
+use Rattle.std.proofs.Common.{◌≡◌, ℕ, zero, suc, ◌+◌, ◌<◌, ◌≤◌, List, [], ◌∷◌, ◌++◌, length, get_or, take, set, sym, refl, ap, ◌∙◌, subst, ap₂, append_assoc, append-nil, add-zero, zero-add, take_all, arith}
 use Rattle.std.specs.List.{AllByRecursion}
 use Rattle.std.proofs.lemmas.List.{length_push, get_or_push, get_or_append_left, get_or-take, take_more, take_more_set}
 use Rattle.word.specs.Words.{less_than, equal_to, chosen}
@@ -102,6 +102,10 @@ module _ (plus minus : ℕ → ℕ → ℕ) (v : Values) where
       ∙ ap (λ (l : List ℕ). l ++ (makes plus minus v l (get_or ls n d) ∷ [])) q
       ∙ sym (worked_push (take n ls) (get_or ls n d) [])
       ∙ sym (ap (worked plus minus v) (take_more ls n d h))
+
+  -- all lines are worked out
+  pub all_worked : (ls whole : List Line) (n k : ℕ) (vs : List ℕ) → n ≡ k → length ls ≤ n → ls ≡ whole → take n vs ≡ worked plus minus v (take n ls) → take k vs ≡ worked plus minus v whole
+  all_worked ls whole n k vs e h same w = ap (λ (j : ℕ). take j vs) (sym e) ∙ w ∙ ap (worked plus minus v) (take_all n ls h ∙ same)
 
   -- a table whose front has been worked out
   pub table_satisfied : (ls : List Line) (k : ℕ) (vs : List ℕ) → length ls ≡ k → Ordered ls → take k vs ≡ worked plus minus v ls → Satisfied plus minus v ls vs

@@ -1,20 +1,13 @@
 -- What a builder holds. Assumes nothing.
-use Rattle.std.specs.Prelude.{◌≡◌, ℕ, ◌+◌, false, [], ◌∷◌, ◌++◌, take, slice_index_or}
-use Rattle.transaction.specs.declared.frame.Frame.{Frame}
-use Rattle.transaction.specs.declared.frame.Nest.{Nest}
+use Rattle.std.specs.Prelude.{◌≡◌, ◌+◌, [], ◌∷◌, ◌++◌, take}
 use Rattle.transaction.specs.Frames.{frames_of}
 use Rattle.lines.specs.declared.line.Line.{Line}
 use Rattle.lines.specs.declared.line.Source.{Source}
-use Rattle.lines.specs.declared.line.Source.TheVariants.{Field as Incoming}
 use Rattle.lines.specs.declared.builder.Builder.{Builder}
 use Rattle.lines.specs.Build.{Draft, latest, draft, guarded}
 
 abbrev pub draft_of : Builder → Draft
 draft_of b = draft (take b.count b.lines) (latest b.fields b.states) (frames_of b.nest)
-
--- open if j, counted from the outermost
-abbrev pub frame_at : Nest Source → ℕ → Frame Source
-frame_at n j = slice_index_or n.frames j (record { on = Incoming 0; second = false })
 
 -- one line more, and nothing else
 pub record Pushed (l : Line) (b b' : Builder) : Type 0 where

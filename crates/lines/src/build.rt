@@ -11,12 +11,13 @@ ghost use Rattle.lines.specs.Named.{up_from};
 ghost use Rattle.lines.specs.Exact.{Exactly, NamedThere, InOrder};
 ghost use Rattle.lines.specs.Unique.{IsBlankPast};
 ghost use Rattle.lines.specs.Meaning.{KeepsMeaning, EachMakes, MakesWords};
-ghost use Rattle.lines.specs.View.{draft_of, frame_at, Pushed, Guarded};
+ghost use Rattle.lines.specs.View.{draft_of, Pushed, Guarded};
 
 use crate::builder::Builder;
 use crate::line::{Line, Source};
 use crate::lines::Lines;
 use crate::named::named_states;
+use std::array;
 use transaction::{Frame, Nest, Operand, Statement, Target, Transaction};
 use word::{at, put};
 
@@ -51,7 +52,7 @@ impl Builder {
         Source::Line((self.count - 1) as u8)
     }
 
-    // One line more.
+    // One line more. Room for it is asked of each method, and is no fact of the type: a builder may be full.
     fn push(&mut self, l: Line)
         requires { self.old.count < 208 }
         ensures { Pushed l self.old self.new }
@@ -60,25 +61,16 @@ impl Builder {
         self.count += 1;
     }
 
-    // The choose line of open if j, counted from the outermost.
-    fn guard_by(&mut self, j: usize, old: Source)
-        requires some { 0 < self.old.count }
-        requires room { self.old.count < 208 }
-        requires open { j < self.old.nest.depth }
-        ensures { Pushed (choose_for (frame_at self.old.nest j) (last_of (draft_of self.old).lines) old) self.old self.new }
-    {
-        let frame = self.nest.frames[j];
-        let new = self.last();
-        self.push(choose_for(frame, new, old));
-    }
-
     // A choose line for each open if, innermost first.
     fn guard(&mut self, old: Source)
         requires { (0 < self.old.count) × (self.old.count + self.old.nest.depth ≤ 208) }
         ensures { Guarded old self.old self.new }
     {
-        for j in (0..self.nest.depth).rev() {
-            self.guard_by(j, old);
+        // a copy of the open ifs, since each line changes the builder
+        let frames = self.nest.frames;
+        for &frame in frames[..self.nest.depth].iter().rev() {
+            let new = self.last();
+            self.push(choose_for(frame, new, old));
         }
     }
 
@@ -88,7 +80,7 @@ impl Builder {
         ensures made { draft_of self.new ≡ assigned t l (draft_of self.old) }
         ensures count { self.new.count ≡ self.old.count + 1 + self.old.nest.depth }
     {
-        let old = self.source(t.operand());
+        let old = self.source(t.into());
         self.push(l);
         self.guard(old);
         let new = self.last();
@@ -119,13 +111,13 @@ impl Builder {
             ),
             Statement::If(c) => {
                 let on = self.source(c);
-                let _ = self.nest.open_if(on);
+                self.nest.open_if(on);
             }
             Statement::Else => {
-                let _ = self.nest.turn();
+                self.nest.turn();
             }
             Statement::End => {
-                let _ = self.nest.close();
+                self.nest.close();
             }
         }
     }
@@ -137,8 +129,8 @@ impl Builder {
         ensures made { draft_of self.new ≡ adds_all (statements_of t.now) (draft_of self.old) }
         ensures count { self.new.count ≤ 200 }
     {
-        for i in 0..t.count as usize {
-            self.add(t.statements[i]);
+        for &x in t.body() {
+            self.add(x);
         }
     }
 
@@ -171,24 +163,7 @@ impl Builder {
         Builder {
             lines: [Line::Read(0); 208],
             count: 0,
-            fields: [
-                Source::Field(0),
-                Source::Field(1),
-                Source::Field(2),
-                Source::Field(3),
-                Source::Field(4),
-                Source::Field(5),
-                Source::Field(6),
-                Source::Field(7),
-                Source::Field(8),
-                Source::Field(9),
-                Source::Field(10),
-                Source::Field(11),
-                Source::Field(12),
-                Source::Field(13),
-                Source::Field(14),
-                Source::Field(15),
-            ],
+            fields: array::from_fn(|i| Source::Field(i as u8)),
             states: [Source::Constant(0); 8],
             nest: Nest::new(Source::Constant(0)),
         }
@@ -203,13 +178,12 @@ impl Builder {
         ensures nest { self.new.nest ≡ self.old.nest }
         ensures count { self.new.count ≤ 8 }
     {
-        for s in 0..8 {
-            let first = if named[s] {
+        for (s, &is_named) in named.iter().enumerate() {
+            self.states[s] = if is_named {
                 self.read_state(s as u8)
             } else {
                 Source::Constant(0)
             };
-            put(&mut self.states, s, first);
         }
     }
 
@@ -231,8 +205,8 @@ impl Builder {
         ensures fields { self.new.fields ≡ self.old.fields }
         ensures states { self.new.states ≡ self.old.states }
     {
-        for s in 0..8 {
-            if named[s] {
+        for (s, &is_named) in named.iter().enumerate() {
+            if is_named {
                 self.write_state(s as u8);
             }
         }
@@ -246,11 +220,9 @@ fn number_states(named: &[bool; 8], first: usize) -> [usize; 8]
 {
     let mut numbers = [first; 8];
     let mut next = first;
-    for s in 0..8 {
+    for (s, &is_named) in named.iter().enumerate() {
         numbers[s] = next;
-        if named[s] {
-            next += 1;
-        }
+        next += usize::from(is_named);
     }
     numbers
 }

@@ -6,6 +6,7 @@ use crate::line::{Line, Source};
 use transaction::Nest;
 
 // The first `count` lines of a table, the latest value of each field and of each state, and the open ifs, each with its condition as it was at the if.
+// The tables have a fixed length: no library uses the heap.
 #[derive(Drop)]
 pub struct Builder {
     pub lines: [Line; 208],

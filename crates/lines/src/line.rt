@@ -1,7 +1,7 @@
 // A line and what it reads.
 
 // What a line reads: an incoming field of the packet, the value of a line, by the line's number, or a constant.
-#[derive(Clone, Copy)]
+#[derive(Clone, Copy, Debug, PartialEq, Eq)]
 pub enum Source {
     Field(u8),
     Line(u8),
@@ -9,7 +9,7 @@ pub enum Source {
 }
 
 // A line makes one value; lines are numbered from 0, and none depends on a branch.
-#[derive(Clone, Copy)]
+#[derive(Clone, Copy, Debug, PartialEq, Eq)]
 pub enum Line {
     // the word of a state as the packet meets it
     Read(u8),

@@ -1,12 +1,15 @@
 // The lines of a transaction.
-ghost use Rattle.std.specs.Prelude.{◌≡◌, ◌+◌, ◌-◌, ◌≤◌, length, take, drop};
+ghost use Rattle.std.specs.Prelude.{◌≡◌, ◌+◌, ◌-◌, ◌≤◌, length, take, drop, slice_index_or};
 ghost use Rattle.lines.specs.Named.{amount};
 ghost use Rattle.lines.specs.Build.{read_lines, write_lines, numbered};
+ghost use Rattle.lines.specs.declared.line.Line.TheVariants.{Read};
 ghost use Rattle.lines.specs.Layout.{Ordered, ReadsBelow, Below, Plain};
 
 use crate::line::{Line, Source};
+use word::at;
 
 // The first `count` lines of a table: read lines of the named states, ascending, then the lines of the statements, then write lines of the named states, ascending.
+// All tables have a fixed length, those by state one entry for each, and a value is copied: no library uses the heap.
 #[derive(Clone, Copy)]
 pub struct Lines {
     pub lines: [Line; 208],
@@ -37,4 +40,20 @@ pub struct Lines {
     ghost lines_below: { ReadsBelow (count - amount named) (take count lines) },
     ghost finals_below: { Below (count - amount named) finals },
     ghost updates_below: { Below (count - amount named) updates },
+}
+
+impl Lines {
+    // The lines, in order.
+    pub fn body(&self) -> &[Line]
+        ensures { result.now ≡ take self.now.count self.now.lines }
+    {
+        &self.lines[..self.count]
+    }
+
+    // Line n; past the table the read line of state 0, which means nothing.
+    pub fn line(&self, n: usize) -> Line
+        ensures { result ≡ slice_index_or self.now.lines n (Read 0) }
+    {
+        at(&self.lines, n, Line::Read(0))
+    }
 }

@@ -2,8 +2,6 @@
 ghost use Rattle.lines.specs.Unique.{LinesUnique};
 
 // The lines of statements are one table, and no other.
-pub fn lines_are_unique() -> u8
+pub fn lines_are_unique()
     ensures { LinesUnique }
-{
-    0
-}
+{}

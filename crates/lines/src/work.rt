@@ -1,7 +1,6 @@
 // The values of the lines.
-ghost use Rattle.std.specs.Prelude.{◌≡◌, ℕ, ◌≤◌, take, slice_index, slice_index_or};
+ghost use Rattle.std.specs.Prelude.{◌≡◌, ℕ, ◌≤◌, take, slice_index};
 ghost use Rattle.meaning.specs.Serial.{values};
-ghost use Rattle.lines.specs.declared.line.Line.TheVariants.{Read};
 ghost use Rattle.lines.specs.Work.{value_of, makes, worked, Satisfied};
 
 use crate::line::{Line, Source};
@@ -23,35 +22,24 @@ impl Source {
 
 impl Line {
     // What a line makes of the values of what it reads, a read line the old word.
+    // The slices come apart, for their owners keep them apart: a struct of them would be made anew at each line.
     pub fn make<M: Arithmetic>(self, fields: &[u32], words: &[u32], made: &[u32]) -> u32
         ensures { result ≡ makes M.Arithmetic.plus M.Arithmetic.minus (values fields.now words.now) made.now self }
     {
+        let value = |a: Source| a.value(fields, made);
         match self {
             Line::Read(s) => at(words, s as usize, 0),
-            Line::Copy(a) | Line::Write(_, a) => a.value(fields, made),
-            Line::Add(a, b) => M::sum(a.value(fields, made), b.value(fields, made)),
-            Line::Sub(a, b) => M::difference(a.value(fields, made), b.value(fields, made)),
-            Line::Less(a, b) => less(a.value(fields, made), b.value(fields, made)),
-            Line::Equal(a, b) => equal(a.value(fields, made), b.value(fields, made)),
-            Line::Choose(c, a, b) => {
-                if is_true(c.value(fields, made)) {
-                    a.value(fields, made)
-                } else {
-                    b.value(fields, made)
-                }
-            }
+            Line::Copy(a) | Line::Write(_, a) => value(a),
+            Line::Add(a, b) => M::sum(value(a), value(b)),
+            Line::Sub(a, b) => M::difference(value(a), value(b)),
+            Line::Less(a, b) => less(value(a), value(b)),
+            Line::Equal(a, b) => equal(value(a), value(b)),
+            Line::Choose(c, a, b) => value(if is_true(value(c)) { a } else { b }),
         }
     }
 }
 
 impl Lines {
-    // What line n makes.
-    fn make<M: Arithmetic>(&self, n: usize, fields: &[u32], words: &[u32], made: &[u32]) -> u32
-        ensures { result ≡ makes M.Arithmetic.plus M.Arithmetic.minus (values fields.now words.now) made.now (slice_index_or self.now.lines n (Read 0)) }
-    {
-        at(&self.lines, n, Line::Read(0)).make::<M>(fields, words, made)
-    }
-
     // The values of the lines, one after another, and 0 past the last.
     pub fn work_out<M: Arithmetic>(&self, fields: &[u32], words: &[u32]) -> [u32; 208]
         ensures worked { take self.now.count result ≡ worked M.Arithmetic.plus M.Arithmetic.minus (values fields.now words.now) (take self.now.count self.now.lines) }
@@ -59,9 +47,8 @@ impl Lines {
         ensures past { (n : ℕ) → self.now.count ≤ n → slice_index result n ≡ 0 }
     {
         let mut made = [0; 208];
-        for n in 0..self.count {
-            let value = self.make::<M>(n, fields, words, &made[0..n]);
-            made[n] = value;
+        for (n, line) in self.body().iter().enumerate() {
+            made[n] = line.make::<M>(fields, words, &made[..n]);
         }
         made
     }

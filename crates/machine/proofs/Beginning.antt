@@ -1,6 +1,5 @@
 -- Machines at their start. Assumes nothing.
-use Rattle.std.proofs.Common.{◌≡◌, ℕ, List, length, replicate, None, sym, subst, arith}
-use lib.ListN.{get_or-replicate}
+use Rattle.std.proofs.Common.{◌≡◌, ℕ, List, sym, subst}
 use Rattle.transaction.specs.WellFormed.{Program}
 use Rattle.transaction.specs.Programs.{program_of}
 use Rattle.resolving.specs.declared.packet.Packet.{Packet as Row}
@@ -19,16 +18,6 @@ use Rattle.machine.specs.Held.{contents}
 use Rattle.machine.specs.Started.{Begins}
 
 module _ (plus minus : ℕ → ℕ → ℕ) (ran : List ℕ → ℕ → Row → ℕ) where
-  -- empty places, no packet counted, zeroed words
-  pub empty_fresh : (plan : Plan) (rows : List Row) → length rows ≡ 33 → Fresh (pipeline_of plus minus ran plan) (record { places = replicate 33 None; carried = rows; counts = replicate 33 0; words = replicate 8 0 })
-  empty_fresh plan rows long =
-      record {
-        room = record { places = omega (arith, plan.few_stages); carried = omega (arith, plan.few_stages, long); counts = omega (arith, plan.few_stages) };
-        places = λ q h. get_or-replicate 33 q None None (omega (arith, plan.few_stages));
-        counts = λ q h. get_or-replicate 33 q 0 0 (omega (arith, plan.few_stages));
-        words = λ s h. get_or-replicate 8 s 0 0 (omega (arith, plan.transaction.few_states));
-      }
-
   module _ (sums : WordsToWords plus) (differences : WordsToWords minus) where
     pub right_for : (limits : Limits) (plan : Plan) (p : Program) → Sound plus minus ran limits plan → program_of plan.transaction ≡ p → Right (pipeline_of plus minus ran plan) (one_alone plus minus p)
     right_for limits plan p s e =

@@ -20,22 +20,6 @@ module _ {Row : Type 0} (P : Pipeline Row) where
     pub past : (r : ℕ) → P.shape.depth < r → (packet_at m' r ≡ packet_at m r) × (values_at P m' r ≡ values_at P m r) × (count_at m' r ≡ count_at m r)
     pub sizes : SameSizes m m'
 
-  -- before the first
-  pub passing_none : (q : ℕ) (m : Contents Row) → P.shape.depth ≤ q → Passing q m m
-  passing_none q m h =
-      record {
-        moves = λ r a b. absurd (omega arith);
-        waits = λ r a. refl;
-        works = λ r a b. absurd (omega arith);
-        carried = λ r a. refl;
-        runs = λ s r hs a b e. absurd (omega arith);
-        rests = λ s f. refl;
-        counts = λ r a b. absurd (omega arith);
-        counted = λ r a. refl;
-        past = λ r a. (refl, refl, refl);
-        sizes = record { places = refl; carried = refl; counts = refl; words = refl };
-      }
-
   more : (q : ℕ) (m x y : Contents Row) → q < P.shape.depth → suc q < length x.places → Passing (suc q) m x → Moved P m.words q (suc q) x y → Passing q m y
   more q m x y hq hl p h =
       record {
@@ -148,17 +132,3 @@ module _ {Row : Type 0} (P : Pipeline Row) (stood : List ℕ) where
       rest : (s : ℕ) → (s < P.shape.states → P.shape.stage s ≡ k → ⊥) → (s < P.shape.states) ⊎ (P.shape.states ≤ s) → word_of y s ≡ word_of m s
       rest s f (inl hs) = run s hs ∙ ap {B = ℕ} (λ (b : Bool). cond b (P.run s (get_or stood s 0) (values_at P m q)) (word_of m s)) (ne_eqb (P.shape.stage s) k (f hs))
       rest s f (inr hs) = h.rests s hs ∙ ap {B = ℕ} (λ (l : List ℕ). get_or l s 0) ew
-
-  -- where no packet stands, none moves
-  pub moved_none : (q k : ℕ) (m y : Contents Row) → packet_at m q ≡ None → y.places ≡ set m.places k (packet_at m q) → y.carried ≡ m.carried → y.counts ≡ m.counts → y.words ≡ m.words → Moved P stood q k m y
-  moved_none q k m y e ep er ec ew =
-      record {
-        places = ep;
-        works = ap {B = Row} (λ (l : List Row). get_or l k P.blank) er ∙ ap {B = Row} (λ (o : Option ℕ). cond (is_some o) (P.work k (values_at P m q) stood) (values_at P m k)) (sym e);
-        carried = λ r ne. ap {B = Row} (λ (l : List Row). get_or l r P.blank) er;
-        counts = ap {B = ℕ} (λ (l : List ℕ). get_or l k 0) ec ∙ ap {B = ℕ} (λ (o : Option ℕ). unwrap_or o (count_at m k)) (sym e);
-        others = λ r ne. ap {B = ℕ} (λ (l : List ℕ). get_or l r 0) ec;
-        runs = λ s hs es. ap {B = ℕ} (λ (l : List ℕ). get_or l s 0) ew ∙ ap {B = ℕ} (λ (o : Option ℕ). cond (is_some o) (P.run s (get_or stood s 0) (values_at P m q)) (word_of m s)) (sym e);
-        rests = λ s f. ap {B = ℕ} (λ (l : List ℕ). get_or l s 0) ew;
-        sizes = record { places = ap length ep ∙ length-set m.places k (packet_at m q); carried = ap length er; counts = ap length ec; words = ap length ew };
-      }

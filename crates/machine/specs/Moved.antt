@@ -2,6 +2,12 @@
 use Rattle.std.specs.Prelude.{◌≡◌, ℕ, ◌<◌, ◌≤◌, cond, List, is_some, ◌==◌, ◌≢◌, slice_index, slice_set}
 use Rattle.std.specs.Option.{unwrap_or}
 use Rattle.book.specs.Pipeline.{Pipeline, Contents, packet_at, values_at, count_at, word_of, SameSizes}
+use Rattle.machine.specs.declared.machine.Machine.{Machine}
+
+-- the plan and the atom stay
+pub record SameCircuit {A : Type 0} (m m' : Machine A) : Type 0 where
+  pub plan : m'.plan ≡ m.plan
+  pub atom : m'.atom ≡ m.atom
 
 -- `stood` are the words as they stood before the tick
 module _ {Row : Type 0} (P : Pipeline Row) (stood : List ℕ) where

@@ -5,7 +5,7 @@ ghost use Rattle.machine.specs.Faults.{machine_refusal, start_refusal};
 use compiler::CompileFault;
 use transaction::Refusal;
 
-#[derive(Clone, Copy)]
+#[derive(Clone, Copy, Debug, PartialEq, Eq)]
 pub enum MachineFault {
     // a buffer's length, which is not the number of a packet's fields
     Length(usize),
@@ -19,12 +19,12 @@ pub enum MachineFault {
     NoState(usize),
 }
 
-impl MachineFault {
-    // The fault's number and place.
-    pub fn refusal(self) -> Refusal
-        ensures { result ≡ machine_refusal self }
-    {
-        match self {
+// The fault's number and place.
+impl From<MachineFault> for Refusal {
+    ghost from_gives = { λ f r. r ≡ machine_refusal f };
+
+    fn from(f: MachineFault) -> Refusal {
+        match f {
             MachineFault::Length(place) => Refusal { number: 11, place },
             MachineFault::EntryFull => Refusal {
                 number: 12,
@@ -42,7 +42,7 @@ impl MachineFault {
 }
 
 // Why a machine was not started: what the compiler refused.
-#[derive(Clone, Copy)]
+#[derive(Clone, Copy, Debug, PartialEq, Eq)]
 pub struct StartFault {
     pub compile: CompileFault,
 }
@@ -55,11 +55,11 @@ impl From<CompileFault> for StartFault {
     }
 }
 
-impl StartFault {
-    // The fault's number and place.
-    pub fn refusal(self) -> Refusal
-        ensures { result ≡ start_refusal self }
-    {
-        self.compile.refusal()
+// The fault's number and place.
+impl From<StartFault> for Refusal {
+    ghost from_gives = { λ f r. r ≡ start_refusal f };
+
+    fn from(f: StartFault) -> Refusal {
+        Refusal::from(f.compile)
     }
 }

@@ -3,6 +3,7 @@
 
 mod fault;
 mod feed;
+mod held;
 mod machine;
 mod peek;
 mod sight;

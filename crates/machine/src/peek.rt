@@ -35,7 +35,7 @@ impl<A: Atom> Machine<A> {
             return Err(MachineFault::NoState(s));
         }
         let stage = self.atom_stage(s);
-        Ok((at(&self.words, s, 0), at(&self.counts, stage, 0)))
+        Ok((at(&self.held.words, s, 0), at(&self.held.counts, stage, 0)))
     }
 
     // A state's word, and how many packets have reached its atom.

@@ -26,6 +26,6 @@ impl<A> Machine<A> {
     pub fn packet_at(&self, place: usize) -> Option<u32>
         ensures { result ≡ packet_at (contents self.now) place }
     {
-        at(&self.places, place, None)
+        at(&self.held.places, place, None)
     }
 }

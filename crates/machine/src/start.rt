@@ -1,6 +1,7 @@
 // Starting a machine.
-ghost use Rattle.std.specs.Prelude.{◌≡◌};
+ghost use Rattle.std.specs.Prelude.{◌≡◌, [], ◌∷◌};
 ghost use Rattle.transaction.specs.Programs.{program_of};
+ghost use Rattle.image.specs.Reading.{good, image_says};
 ghost use Rattle.book.specs.Agrees.{Fresh};
 ghost use Rattle.book.specs.Run.{one_alone};
 ghost use Rattle.book.specs.Right.{Right};
@@ -11,11 +12,11 @@ ghost use Rattle.machine.specs.Held.{contents};
 ghost use Rattle.machine.specs.Started.{begun, Started};
 
 use crate::fault::StartFault;
+use crate::held::Held;
 use crate::machine::Machine;
 use atoms::Atom;
 use compiler::compile;
 use plans::{Plan, idle_plan};
-use resolving::Packet;
 use schedule::Schedule;
 
 impl<A: Atom> Machine<A> {
@@ -26,18 +27,11 @@ impl<A: Atom> Machine<A> {
         ensures atom { result.atom ≡ atom }
     {
         let schedule = Schedule::of(&plan.placement.stages);
-        let blank = Packet {
-            fields: [0; 16],
-            lines: [0; 208],
-        };
         Machine {
             atom,
             plan,
             schedule,
-            places: [None; 33],
-            rows: [blank; 33],
-            counts: [0; 33],
-            words: [0; 8],
+            held: Held::empty(),
         }
     }
 
@@ -46,6 +40,7 @@ impl<A: Atom> Machine<A> {
         ensures fresh { Fresh (pipeline_of A.Arith.Arithmetic.plus A.Arith.Arithmetic.minus A.Atom.ran result.plan) (contents result) }
         ensures right { Right (pipeline_of A.Arith.Arithmetic.plus A.Arith.Arithmetic.minus A.Atom.ran result.plan) (one_alone A.Arith.Arithmetic.plus A.Arith.Arithmetic.minus idle_program) }
         ensures program { program_of result.plan.transaction ≡ idle_program }
+        ensures image { image_says (1 ∷ 1 ∷ 0 ∷ 0 ∷ []) ≡ good (program_of result.plan.transaction) }
         ensures depth { (shape_of result.plan).depth ≡ 1 }
         ensures atom { result.atom ≡ atom }
     {
@@ -60,12 +55,11 @@ impl<A: Atom> Machine<A> {
     {
         self.schedule = Schedule::of(&plan.placement.stages);
         self.plan = plan;
-        self.places = [None; 33];
-        self.counts = [0; 33];
-        self.words = [0; 8];
+        self.held = Held::empty();
     }
 
-    // Compiles an image and starts on its plan; a machine that was refused goes on as it was.
+    // Compiles an image and starts on its plan; a machine that was refused goes on as it was. The limits come unchecked, as
+    // `compile` takes them.
     pub fn start(&mut self, image: &[u8], d: u32, p: u32, q: u32) -> Result<(), StartFault>
         ensures verdict { Verdict A.Atom.len A.Atom.takes image.now d p q (begun result self.new) }
         ensures started { Started A.Arith.Arithmetic.plus A.Arith.Arithmetic.minus A.Atom.ran image.now d p q result self.old self.new }

@@ -1,5 +1,5 @@
 // What leaves a machine.
-ghost use Rattle.std.specs.Prelude.{◌≡◌, length, is_some, Ok, Err};
+ghost use Rattle.std.specs.Prelude.{◌≡◌, length, is_some, IfOk};
 ghost use Rattle.plans.specs.Pipeline.{leaving_with, row_at};
 ghost use Rattle.book.specs.Calls.{taking};
 ghost use Rattle.book.specs.Calls.Call.{Take};
@@ -20,29 +20,26 @@ impl<A: Atom> Machine<A> {
     // The row of the packet that leaves into a buffer of this length.
     fn leaving(&self, fields: usize) -> Result<Packet, MachineFault>
         ensures answer { answered (λ row. packet (leaving_with self.now.plan row)) result ≡ taking self.now.plan.transaction.fields fields self.now.plan.placement.stages.count (is_some (packet_at (contents self.now) self.now.plan.placement.stages.count)) (leaving_with self.now.plan (row_at (contents self.now) self.now.plan.placement.stages.count)) }
-        ensures long { elim result [ Ok row ↦ fields ≡ self.now.plan.transaction.fields | Err f ↦ Unit {0} ] }
+        ensures long { IfOk result (λ _. fields ≡ self.now.plan.transaction.fields) }
     {
         if fields != self.plan.transaction.fields as usize {
             return Err(MachineFault::Length(fields));
         }
         let exit = self.plan.placement.stages.count;
-        if at(&self.places, exit, None).is_none() {
+        if at(&self.held.places, exit, None).is_none() {
             return Err(MachineFault::ExitEmpty(exit));
         }
-        Ok(self.rows[exit])
+        Ok(self.held.rows[exit])
     }
 
     // Writes the final values of the fields of a packet that carries this row.
     fn write_finals(&self, row: &Packet, out: &mut [u32])
         ensures { length out.old ≡ self.now.plan.transaction.fields → out.new ≡ leaving_with self.now.plan row.now }
     {
-        for i in 0..out.len() {
-            let last = at(
-                &self.plan.placement.codelets.lines.finals,
-                i,
-                Source::Constant(0),
-            );
-            put(out, i, last.value(&row.fields, &row.lines));
+        let finals = &self.plan.placement.codelets.lines.finals;
+        for (i, word) in out.iter_mut().enumerate() {
+            let last = at(finals, i, Source::Constant(0));
+            *word = last.value(&row.fields, &row.lines);
         }
     }
 
@@ -54,7 +51,7 @@ impl<A: Atom> Machine<A> {
         let row = self.leaving(out.len())?;
         self.write_finals(&row, out);
         let exit = self.plan.placement.stages.count;
-        put(&mut self.places, exit, None);
+        put(&mut self.held.places, exit, None);
         Ok(())
     }
 }

@@ -8,10 +8,7 @@ use word::Wrap;
 
 // How many stages the plan of an image has, or why there is none.
 fn stages<A: Atom>(atom: &A, image: &[u8], d: u32, p: u32) -> Result<usize, Refusal> {
-    match compile(atom, image, d, p, 8) {
-        Ok(plan) => Ok(plan.placement.stages.count),
-        Err(fault) => Err(fault.refusal()),
-    }
+    Ok(compile(atom, image, d, p, 8)?.placement.stages.count)
 }
 
 fn refuses<A: Atom>(atom: &A, image: &[u8], d: u32, p: u32, number: u8, place: usize) -> bool {

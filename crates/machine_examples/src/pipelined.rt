@@ -12,38 +12,26 @@ use word::Wrap;
 fn is_refused(answer: Result<(), MachineFault>, number: u8, place: usize) -> bool {
     match answer {
         Ok(()) => false,
-        Err(fault) => fault.refusal() == Refusal { number, place },
+        Err(fault) => Refusal::from(fault) == Refusal { number, place },
     }
 }
 
 // Feeds a packet and ticks, five times, and feeds once more: every place of a machine of five stages holds a packet.
 fn fill<A: Atom>(machine: &mut Machine<A>) -> bool {
-    let mut done = true;
-    for _ in 0..5 {
-        done = machine.feed(&[7, 7]).is_ok() & machine.tick().is_ok() & done;
-    }
-    machine.feed(&[7, 7]).is_ok() & done
+    let filled = (0..5).all(|_| machine.feed(&[7, 7]).is_ok() && machine.tick().is_ok());
+    filled && machine.feed(&[7, 7]).is_ok()
 }
 
 // Takes twelve packets, of which the tenth is marked, with a tick after each, and feeds six.
 fn drain<A: Atom>(machine: &mut Machine<A>) -> bool {
-    let mut done = true;
-    for n in 1..13 {
+    (1..13).all(|n| {
         let mut fields = [7, 7];
         let taken = machine.take(&mut fields).is_ok();
-        let mark = (n == 10) as u32;
+        let mark = u32::from(n == 10);
         let ticked = machine.tick().is_ok();
-        let fed = machine.feed(&[7, 7]).is_ok() | (n > 6);
-        done = taken & (fields == [mark, mark]) & ticked & fed & done;
-    }
-    done
-}
-
-fn is_new(peeked: Result<(u32, u32), MachineFault>) -> bool {
-    match peeked {
-        Ok((word, count)) => word == 0 && count == 0,
-        Err(_) => false,
-    }
+        let fed = machine.feed(&[7, 7]).is_ok() || n > 6;
+        taken && fields == [mark, mark] && ticked && fed
+    })
 }
 
 // A full machine neither ticks nor takes another packet in, nor is it changed by a start that is refused;
@@ -57,22 +45,15 @@ fn full_stalled_and_drained(rt: HostRuntime) {
     let refused = machine.start(b"\x80", 30, 10, 8).is_err();
     let drained = drain(&mut machine);
     assert!(rt; started & filled & stalled & refused & drained);
-    assert!(rt; machine.start(SAMPLING, 30, 10, 8).is_ok() & is_new(machine.peek(0)));
-}
-
-// The word that a peek told and its count, or why a call was refused; none where a call was done.
-fn told(asked: &Asked) -> Option<Result<(u32, u32), Refusal>> {
-    match asked.answer {
-        Reply::Refusal(fault) => Some(Err(fault.refusal())),
-        Reply::Done => None,
-        Reply::Shown(word, count) => Some(Ok((word, count))),
-    }
+    assert!(rt;
+        machine.start(SAMPLING, 30, 10, 8).is_ok() & (machine.peek(0).ok() == Some((0, 0)))
+    );
 }
 
 fn asking(call: Call) -> Asked {
     Asked {
         call,
-        answer: Reply::Done,
+        answer: Ok(Reply::Done),
     }
 }
 
@@ -91,7 +72,10 @@ fn served_with_a_refusal_among_the_calls(rt: HostRuntime) -> Result<(), Fail> {
         number: 11,
         place: 0,
     };
-    let refused = told(&asked[1]) == Some(Err(short));
-    assert!(rt; served & refused & (told(&asked[3]) == Some(Ok((5, 1)))));
+    let refused = asked[1]
+        .answer
+        .is_err_and(|fault| Refusal::from(fault) == short);
+    let shown = asked[3].answer.ok() == Some(Reply::Shown(5, 1));
+    assert!(rt; served & refused & shown);
     Ok(())
 }

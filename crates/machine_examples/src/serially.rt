@@ -2,25 +2,20 @@
 use crate::images::{LOWER, RAISE, SET, SET_EITHER, SET_OR_LOWER, SET_OR_RAISE};
 use atoms::{Add, Atom, ReadWrite, Subtract};
 use choice::Choice;
-use machine::Machine;
+use machine::{Machine, MachineFault};
 use meaning::alone;
 use std::process::Abort;
 use word::{Arithmetic, Clamp, Wrap, at};
 
-// The fields with which a packet leaves a machine that is empty, if it was let through.
-fn through<A: Atom>(machine: &mut Machine<A>, packet: [u32; 2]) -> Option<[u32; 2]> {
+// The fields with which a packet leaves a machine that is empty.
+fn through<A: Atom>(machine: &mut Machine<A>, packet: [u32; 2]) -> Result<[u32; 2], MachineFault> {
     let mut fields = [0, 0];
-    let fed = machine.feed(&packet).is_ok();
-    let mut ticked = true;
+    machine.feed(&packet)?;
     for _ in 0..machine.depth() {
-        ticked = machine.tick().is_ok() && ticked;
+        machine.tick()?;
     }
-    let taken = machine.take(&mut fields).is_ok();
-    if fed && ticked && taken {
-        Some(fields)
-    } else {
-        None
-    }
+    machine.take(&mut fields)?;
+    Ok(fields)
 }
 
 // Whether a packet leaves a machine as it leaves the serial run, and state 0 keeps the same word.
@@ -32,22 +27,21 @@ fn passes<A: Atom>(
 ) -> bool {
     let mut fields = packet;
     let ran = alone::<A::Arith>(image, &mut fields, words).is_ok();
-    let left = through(machine, packet) == Some(fields);
-    let kept = match machine.peek(0) {
-        Ok((word, _)) => word == at(words, 0, 0),
-        Err(_) => false,
-    };
+    let left = through(machine, packet).is_ok_and(|taken| taken == fields);
+    let kept = machine
+        .peek(0)
+        .is_ok_and(|(word, _)| word == at(words, 0, 0));
     ran && left && kept
 }
 
 // Whether that holds of each packet, on a machine at its start.
 fn agrees<A: Atom + Drop>(atom: A, image: &[u8], packets: &[[u32; 2]], words: &mut [u32]) -> bool {
     let mut machine = Machine::new(atom);
-    let mut same = machine.start(image, 30, 10, 8).is_ok();
-    for packet in packets {
-        same = passes(&mut machine, image, *packet, words) && same;
-    }
-    same
+    let started = machine.start(image, 30, 10, 8).is_ok();
+    started
+        && packets
+            .iter()
+            .all(|packet| passes(&mut machine, image, *packet, words))
 }
 
 fn every_atom_agrees<M: Arithmetic + Copy + Drop>(rt: &impl Abort, arithmetic: M) {

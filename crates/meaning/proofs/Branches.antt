@@ -1,5 +1,5 @@
 -- Of each if exactly the part runs that its condition chose. Assumes nothing.
-use Rattle.std.proofs.Common.{◌≡◌, ℕ, Bool, true, false, cond, not, ◌&&◌, List, [], ◌∷◌, ◌++◌, Some, None, Option, sym, refl, ap, ◌∙◌, arith}
+use Rattle.std.proofs.Common.{◌≡◌, ℕ, Bool, true, false, cond, not, ◌&&◌, List, [], ◌∷◌, ◌++◌, Some, None, Option, refl, ap, ◌∙◌, arith}
 use Rattle.std.proofs.lemmas.Bool.{and_parts}
 use Rattle.word.specs.Words.{truth}
 use Rattle.transaction.specs.declared.statement.Target.{Target}
@@ -9,16 +9,12 @@ use Rattle.transaction.specs.declared.frame.Frame.{Frame}
 use Rattle.transaction.specs.Statements.{kind_of}
 use Rattle.transaction.specs.Frames.{elses}
 use Rattle.transaction.specs.WellFormed.{opened, fits, after, nested}
-use Rattle.meaning.specs.Serial.{Values, Context, context, operand_in, stored, taken, live, assigned, nest_after, made, step, run, alone}
+use Rattle.meaning.specs.Serial.{Values, Context, context, operand_in, stored, live, assigned, nest_after, made, step, run, alone}
 use Rattle.meaning.specs.Structure.{Whole, Structured}
 
-live_append : (l m : List (Frame Bool)) → live (l ++ m) ≡ (live l && live m)
+pub live_append : (l m : List (Frame Bool)) → live (l ++ m) ≡ (live l && live m)
 live_append [] m = refl
-live_append (f ∷ l) m = go (taken f) (live_append l m)
-  where
-    go : (t : Bool) → live (l ++ m) ≡ (live l && live m) → (t && live (l ++ m)) ≡ ((t && live l) && live m)
-    go true e = e
-    go false e = refl
+live_append (f ∷ l) m = grind (arith, live_append l m)
 
 and_true : (b c : Bool) → c ≡ true → (b && c) ≡ b
 and_true true c e = e
@@ -51,14 +47,14 @@ after_inner (Less t a b) v l m e = refl
 after_inner (Equal t a b) v l m e = refl
 after_inner (Choose t c a b) v l m e = refl
 after_inner (If c) v l m e = refl
-after_inner Else v [] m e = absurd (let z : ◌≡◌ {A = Bool} true false = sym e in let y : ◌≡◌ {A = ℕ} 0 1 = cc in omega arith)
+after_inner Else v [] m e = cc
 after_inner Else v (f ∷ l) m e = refl
-after_inner End v [] m e = absurd (let z : ◌≡◌ {A = Bool} true false = sym e in let y : ◌≡◌ {A = ℕ} 0 1 = cc in omega arith)
+after_inner End v [] m e = cc
 after_inner End v (f ∷ l) m e = refl
 
 none_open : (l : List (Frame Bool)) → not (opened (elses l)) ≡ true → l ≡ []
 none_open [] e = refl
-none_open (f ∷ l) e = absurd (let z : ◌≡◌ {A = Bool} true false = sym e in let y : ◌≡◌ {A = ℕ} 0 1 = cc in omega arith)
+none_open (f ∷ l) e = cc
 
 module _ (plus minus : ℕ → ℕ → ℕ) where
   run_append : (xs ys : List Statement) (h : Context) → run plus minus (xs ++ ys) h ≡ run plus minus ys (run plus minus xs h)
@@ -95,16 +91,19 @@ module _ (plus minus : ℕ → ℕ → ℕ) where
   abbrev frame : Bool → Bool → List (Frame Bool)
   frame t s = record { on = t; second = s } ∷ []
 
+  stores : (o : Option (Target × ℕ)) (t : Target) (n : ℕ) (v : Values) → o ≡ Some (t, n) → context (assigned o [] v) [] ≡ context (stored t n v) []
+  stores o t n v e = ap (λ (o : Option (Target × ℕ)). context (assigned o [] v) []) e
+
   assigns : (x : Statement) (t : Target) (n : ℕ) (v : Values) → made plus minus x v ≡ Some (t, n) → step plus minus x (context v []) ≡ context (stored t n v) []
-  assigns (Copy u a) t n v e = let p : ◌≡◌ {A = Target × ℕ} (u, _) (t, n) = cc in ap (λ (q : Target × ℕ). context (stored q.0 q.1 v) []) p
-  assigns (Add u a b) t n v e = let p : ◌≡◌ {A = Target × ℕ} (u, _) (t, n) = cc in ap (λ (q : Target × ℕ). context (stored q.0 q.1 v) []) p
-  assigns (Sub u a b) t n v e = let p : ◌≡◌ {A = Target × ℕ} (u, _) (t, n) = cc in ap (λ (q : Target × ℕ). context (stored q.0 q.1 v) []) p
-  assigns (Less u a b) t n v e = let p : ◌≡◌ {A = Target × ℕ} (u, _) (t, n) = cc in ap (λ (q : Target × ℕ). context (stored q.0 q.1 v) []) p
-  assigns (Equal u a b) t n v e = let p : ◌≡◌ {A = Target × ℕ} (u, _) (t, n) = cc in ap (λ (q : Target × ℕ). context (stored q.0 q.1 v) []) p
-  assigns (Choose u c a b) t n v e = let p : ◌≡◌ {A = Target × ℕ} (u, _) (t, n) = cc in ap (λ (q : Target × ℕ). context (stored q.0 q.1 v) []) p
-  assigns (If c) t n v e = absurd (let z : ◌≡◌ {A = ℕ} 0 1 = cc in omega arith)
-  assigns Else t n v e = absurd (let z : ◌≡◌ {A = ℕ} 0 1 = cc in omega arith)
-  assigns End t n v e = absurd (let z : ◌≡◌ {A = ℕ} 0 1 = cc in omega arith)
+  assigns (Copy u a) t n v e = stores _ t n v e
+  assigns (Add u a b) t n v e = stores _ t n v e
+  assigns (Sub u a b) t n v e = stores _ t n v e
+  assigns (Less u a b) t n v e = stores _ t n v e
+  assigns (Equal u a b) t n v e = stores _ t n v e
+  assigns (Choose u c a b) t n v e = stores _ t n v e
+  assigns (If c) t n v e = cc
+  assigns Else t n v e = cc
+  assigns End t n v e = cc
 
   -- an if of which the first part runs, or the second
   part : (t : Bool) (a b rest : List Statement) (v : Values) → Whole a → Whole b → run plus minus (a ++ (Else ∷ (b ++ (End ∷ rest)))) (context v (frame t false)) ≡ run plus minus rest (context (cond t (alone plus minus a v) (alone plus minus b v)) [])

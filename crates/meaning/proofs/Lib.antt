@@ -1,2 +1,2 @@
 pub mod Branches
-pub mod Turns
+pub mod Live

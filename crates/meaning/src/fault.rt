@@ -6,13 +6,13 @@ ghost use Rattle.meaning.specs.declared.fault.AloneFault.TheVariants.{Image, Len
 use transaction::{ReadFault, Refusal};
 
 // A buffer does not have as many words as the transaction has fields or states: its length.
-#[derive(Clone, Copy)]
+#[derive(Clone, Copy, Debug, PartialEq, Eq)]
 pub enum LengthFault {
     Fields(usize),
     States(usize),
 }
 
-#[derive(Clone, Copy)]
+#[derive(Clone, Copy, Debug, PartialEq, Eq)]
 pub enum AloneFault {
     Image(ReadFault),
     Length(LengthFault),
@@ -34,26 +34,25 @@ impl From<LengthFault> for AloneFault {
     }
 }
 
-impl LengthFault {
-    // The fault's number and place.
-    pub fn refusal(self) -> Refusal
-        ensures { result ≡ length_refusal self }
-    {
-        match self {
+// The fault's number and place.
+impl From<LengthFault> for Refusal {
+    ghost from_gives = { λ f r. r ≡ length_refusal f };
+
+    fn from(f: LengthFault) -> Refusal {
+        match f {
             LengthFault::Fields(place) => Refusal { number: 11, place },
             LengthFault::States(place) => Refusal { number: 11, place },
         }
     }
 }
 
-impl AloneFault {
-    // The fault's number and place.
-    pub fn refusal(self) -> Refusal
-        ensures { result ≡ alone_refusal self }
-    {
-        match self {
-            AloneFault::Image(f) => f.refusal(),
-            AloneFault::Length(f) => f.refusal(),
+impl From<AloneFault> for Refusal {
+    ghost from_gives = { λ f r. r ≡ alone_refusal f };
+
+    fn from(f: AloneFault) -> Refusal {
+        match f {
+            AloneFault::Image(f) => Refusal::from(f),
+            AloneFault::Length(f) => Refusal::from(f),
         }
     }
 }

@@ -14,10 +14,10 @@ use word::Arithmetic;
 fn check_lengths(t: &Transaction, fields: usize, words: usize) -> Result<(), LengthFault>
     ensures { refused_run result ≡ refusal_in (sized (program_of t.now) fields words) }
 {
-    if fields != t.fields as usize {
+    if fields != usize::from(t.fields) {
         return Err(LengthFault::Fields(fields));
     }
-    if words != t.states as usize {
+    if words != usize::from(t.states) {
         return Err(LengthFault::States(words));
     }
     Ok(())
@@ -34,8 +34,8 @@ pub fn run<M: Arithmetic>(
 {
     check_lengths(t, fields.len(), words.len())?;
     let mut nest = Nest::new(false);
-    for i in 0..t.count as usize {
-        perform::<M>(t.statements[i], fields, words, &mut nest);
+    for x in t.body() {
+        perform::<M>(*x, fields, words, &mut nest);
     }
     Ok(())
 }

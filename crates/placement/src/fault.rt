@@ -7,7 +7,7 @@ use codelets::CodeletFault;
 use stages::StageFault;
 use transaction::Refusal;
 
-#[derive(Clone, Copy)]
+#[derive(Clone, Copy, Debug, PartialEq, Eq)]
 pub enum PlaceFault {
     Codelets(CodeletFault),
     Stages(StageFault),
@@ -29,14 +29,14 @@ impl From<StageFault> for PlaceFault {
     }
 }
 
-impl PlaceFault {
-    // The fault's number and place.
-    pub fn refusal(self) -> Refusal
-        ensures { result ≡ place_refusal self }
-    {
-        match self {
-            PlaceFault::Codelets(f) => f.refusal(),
-            PlaceFault::Stages(f) => f.refusal(),
+// The fault's number and place.
+impl From<PlaceFault> for Refusal {
+    ghost from_gives = { λ f r. r ≡ place_refusal f };
+
+    fn from(f: PlaceFault) -> Refusal {
+        match f {
+            PlaceFault::Codelets(f) => Refusal::from(f),
+            PlaceFault::Stages(f) => Refusal::from(f),
         }
     }
 }

@@ -1,5 +1,4 @@
 // Places every node of a transaction.
-ghost use Rattle.rows.specs.Placed.{Placed};
 ghost use Rattle.placement.specs.Placement.{Staged, Answers};
 
 use crate::fault::PlaceFault;
@@ -7,23 +6,13 @@ use crate::placed::Placement;
 use codelets::{Codelets, codelets_of};
 use lines::Lines;
 use rows::nodes_of;
-use stages::{Limits, Nodes, StageFault, fill};
-
-// The nodes of codelets, with their rows.
-fn table_of(codelets: &Codelets) -> Nodes
-    ensures { Placed codelets.now.lines result.sorts result.rows }
-{
-    let ranked = nodes_of(codelets);
-    let sorts = ranked.sort;
-    let rows = ranked.rows;
-    Nodes { sorts, rows }
-}
+use stages::{Limits, StageFault, fill};
 
 // The placement of lines that are sorted into codelets already; refused where the stages do not suffice.
 pub fn place_codelets(codelets: &Codelets, limits: &Limits) -> Result<Placement, StageFault>
     ensures { Staged codelets.now limits.now result }
 {
-    let nodes = table_of(codelets);
+    let nodes = nodes_of(codelets).table;
     let stages = fill(&nodes, limits)?;
     Ok(Placement {
         codelets: *codelets,
@@ -37,6 +26,5 @@ pub fn place_lines(lines: &Lines, limits: &Limits) -> Result<Placement, PlaceFau
     ensures { Answers lines.now limits.now result }
 {
     let codelets = codelets_of(lines)?;
-    let placement = place_codelets(&codelets, limits)?;
-    Ok(placement)
+    Ok(place_codelets(&codelets, limits)?)
 }

@@ -1,7 +1,5 @@
 -- Resolving changes no value where the decided conditions hold. Assumes nothing.
-use Rattle.std.proofs.Common.{◌≡◌, ℕ, zero, suc, ◌<◌, Bool, true, false, cond, List, [], ◌∷◌, ◌++◌, length, get_or, Some, None, Option, sym, refl, ap, ◌∙◌, ⊎_elim, arith}
-use Rattle.std.proofs.lemmas.List.{get_or_past, get_or_push, get_or_append_left, length_push}
-use Rattle.std.proofs.lemmas.Bool.{cases_order}
+use Rattle.std.proofs.Common.{◌≡◌, ℕ, Bool, true, false, cond, List, get_or, Some, None, Option, sym, refl, ap, ◌∙◌}
 use Rattle.word.specs.Words.{truth}
 use Rattle.lines.specs.declared.line.Source.{Source}
 use Rattle.lines.specs.declared.line.Source.TheVariants.{Field, Line as Made, Constant}
@@ -13,7 +11,7 @@ use Rattle.resolving.specs.declared.packet.Packet.{Packet}
 use Rattle.resolving.specs.Codelets.{line_at, is_inner, value, makes, Satisfies}
 use Rattle.resolving.specs.Resolving.{found, arm, through, resolved_line, table, resolved_to, KeepsValues}
 use Rattle.resolving.specs.Sameness.{decided_as, Agrees, Holds}
-use Rattle.resolving.proofs.Tables.{table_length}
+use Rattle.resolving.proofs.Tables.{table_each}
 
 -- a table has, for each line, a source of that line's value
 abbrev Keeping : Packet → List Source → Type 0
@@ -23,15 +21,6 @@ found_keeps : (p : Packet) (t : List Source) → Keeping p t → (a : Source) �
 found_keeps p t k (Field i) = refl
 found_keeps p t k (Made n) = k n
 found_keeps p t k (Constant w) = refl
-
-push_keeps : (p : Packet) (t : List Source) (y : Source) → Keeping p t → value p y ≡ get_or p.lines (length t) 0 → Keeping p (t ++ (y ∷ []))
-push_keeps p t y k e m =
-    ⊎_elim
-    (λ (same : m ≡ length t). ap (value p) (get_or_push t y (Made m) m (sym same)) ∙ e ∙ ap (λ i. get_or p.lines i 0) (sym same))
-    (⊎_elim
-    (λ (below : m < length t). ap (value p) (get_or_append_left t (y ∷ []) (Made m) m below) ∙ k m)
-    (λ (above : length t < m). ap (value p) (get_or_past (t ++ (y ∷ [])) m (Made m) (omega (arith, length_push t y)))))
-    (cases_order m (length t))
 
 -- a decided condition picks the arm that has the value
 arm_keeps : (p : Packet) (o : Option Bool) (a b itself : Source) (x v : ℕ) → Agrees o x → v ≡ cond (truth x) (value p a) (value p b) → v ≡ value p itself → value p (arm o a b itself) ≡ v
@@ -62,11 +51,7 @@ module _ (cod : Codelet) (d : Decided) (plus minus : ℕ → ℕ → ℕ) (old :
       go false e = refl
 
   table_keeps : (n : ℕ) → Keeping p (table cod d n)
-  unfolding table
-  table_keeps zero = λ m. refl
-  table_keeps (suc n) =
-      push_keeps p (table cod d n) (resolved_line cod d (table cod d n) n) (table_keeps n)
-      (line_keeps (table cod d n) (table_keeps n) n ∙ ap (λ i. get_or p.lines i 0) (sym (table_length cod d n)))
+  table_keeps = table_each (λ m a. value p a ≡ get_or p.lines m 0) (λ m. refl) cod d line_keeps
 
   resolved_keeps : (a : Source) → value p (resolved_to cod d a) ≡ value p a
   resolved_keeps a = found_keeps p (table cod d 208) (table_keeps 208) a

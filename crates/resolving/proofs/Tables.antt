@@ -1,7 +1,7 @@
 -- The table of resolved lines, entry by entry. Assumes nothing.
-use Rattle.std.proofs.Common.{◌≡◌, ℕ, zero, suc, ◌<◌, ◌≤◌, true, false, cond, [], ◌∷◌, length, get_or, sym, refl, ap, ◌∙◌, ⊎_elim, arith}
+use Rattle.std.proofs.Common.{◌≡◌, ℕ, zero, suc, ◌<◌, ◌≤◌, true, false, cond, List, [], ◌∷◌, ◌++◌, length, get_or, sym, refl, ap, ◌∙◌, subst, ⊎_elim, arith}
 use Rattle.std.proofs.lemmas.List.{get_or_past, get_or_push, get_or_append_left, length_push}
-use Rattle.std.proofs.lemmas.Bool.{cases_lt, ltb-true}
+use Rattle.std.proofs.lemmas.Bool.{cases_lt, cases_order, ltb-true}
 use Rattle.lines.specs.declared.line.Source.{Source}
 use Rattle.lines.specs.declared.line.Source.TheVariants.{Field, Line as Made, Constant}
 use Rattle.lines.specs.declared.line.Line.{Line}
@@ -52,3 +52,25 @@ module _ (cod : Codelet) (d : Decided) where
       (λ (h : n < 208). entry n h ∙ ap (λ b. cond b (through d (table cod d n) n (line_at cod n)) (Made n)) i)
       (λ (h : 208 ≤ n). get_or_past (table cod d 208) n (Made n) (omega (arith, table_length 208)))
       (cases_lt n 208)
+
+-- what holds of each line's own source, and of each entry that is made, holds of every entry
+module _ (Q : ℕ → Source → Type 0) (own : (m : ℕ) → Q m (Made m)) where
+  abbrev pub EachEntry : List Source → Type 0
+  EachEntry t = (m : ℕ) → Q m (get_or t m (Made m))
+
+  push_each : (t : List Source) (y : Source) → EachEntry t → Q (length t) y → EachEntry (t ++ (y ∷ []))
+  push_each t y k e m =
+      ⊎_elim
+      (λ (same : m ≡ length t). subst (Q m) (sym (get_or_push t y (Made m) m (sym same))) (subst (λ i. Q i y) (sym same) e))
+      (⊎_elim
+      (λ (below : m < length t). subst (Q m) (sym (get_or_append_left t (y ∷ []) (Made m) m below)) (k m))
+      (λ (above : length t < m). subst (Q m) (sym (get_or_past (t ++ (y ∷ [])) m (Made m) (omega (arith, length_push t y)))) (own m)))
+      (cases_order m (length t))
+
+  pub table_each : (cod : Codelet) (d : Decided) → ((t : List Source) → EachEntry t → (n : ℕ) → Q n (resolved_line cod d t n)) → (n : ℕ) → EachEntry (table cod d n)
+  unfolding table
+  table_each cod d step zero = own
+  table_each cod d step (suc n) =
+      let t = table cod d n in
+      let k = table_each cod d step n in
+      push_each t (resolved_line cod d t n) k (subst (λ i. Q i (resolved_line cod d t n)) (sym (table_length cod d n)) (step t k n))

@@ -80,6 +80,10 @@ operation_at cod t r = cond (is_leaf cod r) (Some (Set (leaf_of cod r))) (operat
 abbrev pub operation_of : Codelet → Decided → Source → Option Operation
 operation_of cod d u = operation_at cod (table cod d 208) (resolved_to cod d u)
 
+-- the names of two sources, where both are leaves
+abbrev pub leaves_of : Codelet → Source → Source → Option (Leaf × Leaf)
+leaves_of cod x y = cond (is_leaf cod x && is_leaf cod y) (Some (leaf_of cod x, leaf_of cod y)) None
+
 abbrev pub comparison_of : Codelet → (Leaf → Leaf → Predicate) → Source → Source → Option Predicate
 comparison_of cod test x y = cond (is_leaf cod x && is_leaf cod y) (Some (test (leaf_of cod x) (leaf_of cod y))) None
 

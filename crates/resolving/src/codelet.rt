@@ -6,6 +6,7 @@ use lines::Line;
 
 // The lines that keep one state's word, tied together by its read line and its write line.
 // Those between the two are its inner lines; every value that is made elsewhere is outside.
+// Lines and marks are two plain tables by line number, as all tables of lines are: libraries use no heap.
 #[derive(Clone, Copy)]
 pub struct Codelet {
     // the lines of the whole transaction

@@ -3,7 +3,7 @@ use crate::leaf::Predicate;
 use lines::Source;
 
 // An update that is an inner choose on a predicate.
-#[derive(Clone, Copy)]
+#[derive(Clone, Copy, Debug, PartialEq, Eq)]
 pub struct Fork {
     // the condition, resolved
     pub condition: Source,

@@ -7,7 +7,7 @@ use word::{at, equal, is_true, less};
 
 // A value that an atom can take as it stands. The numbers come from a setting and may be too large: a field or a line
 // that the packet does not have counts as 0.
-#[derive(Clone, Copy)]
+#[derive(Clone, Copy, Debug, PartialEq, Eq)]
 pub enum Leaf {
     // the word of the state as the packet meets it
     Old,
@@ -19,7 +19,7 @@ pub enum Leaf {
 }
 
 // What an atom without a layer makes of the old word.
-#[derive(Clone, Copy)]
+#[derive(Clone, Copy, Debug, PartialEq, Eq)]
 pub enum Operation {
     // v
     Set(Leaf),
@@ -30,7 +30,7 @@ pub enum Operation {
 }
 
 // A condition that an atom can test by itself.
-#[derive(Clone, Copy)]
+#[derive(Clone, Copy, Debug, PartialEq, Eq)]
 pub enum Predicate {
     // true of every packet
     Always,

@@ -10,6 +10,7 @@ mod matching;
 mod packet;
 mod resolved;
 mod source;
+mod update;
 
 pub use codelet::Codelet;
 pub use decided::Decided;
@@ -18,3 +19,4 @@ pub use leaf::{Leaf, Operation, Predicate};
 pub use packet::Packet;
 pub use resolved::Resolved;
 pub use source::are_same;
+pub use update::Update;

@@ -82,8 +82,9 @@ impl Codelet {
         ensures keeps { KeepsValues self.now decided.now (found result.sources) }
     {
         let mut sources = [Source::Constant(0); 208];
+        // a loop: each entry reads the entries before it, which no chain hands on
         for n in 0..208 {
-            let source = self.resolve_line(decided, &sources[0..n], n as u8);
+            let source = self.resolve_line(decided, &sources[..n], n as u8);
             sources[n] = source;
         }
         Resolved { sources }

@@ -1,5 +1,10 @@
 -- The highest number by a test. Assumes nothing.
-use Rattle.std.proofs.Common.{◌≡◌, ℕ, zero, suc, ◌+◌, ◌<◌, ◌≤◌, max, Bool, true, false, cond, ◌⊎◌, List, [], ◌∷◌, sym, refl, ap, ◌∙◌, subst, ap₂, inl, inr, ⊎_elim, le_trans, le_antisymm, add-one, arith}
+use Rattle.std.proofs.Common.{◌≡◌, ℕ, zero, suc, ◌<◌, ◌≤◌, max, Bool, true, false, cond, ◌⊎◌, List, [], ◌∷◌, ◌++◌, map, filter, sym, refl, ap, ◌∙◌, subst, ap₂, inl, inr, ⊎_elim, append-nil, unwrap_or, le_trans, le_antisymm, arith}
+use Rattle.std.specs.List.{range_with_len, reduce}
+use Rattle.std.proofs.lemmas.List.{map-append}
+use Rattle.std.proofs.lemmas.List.Elements.{filter-append}
+use Rattle.std.proofs.lemmas.List.Sums.{fold-append}
+use Rattle.stages.proofs.Counts.{range_more}
 use native.Mathlib.Nat.{le-max_left, le-max_right, max-le, zero-max}
 use Rattle.std.proofs.lemmas.Bool.{both_ways, cases_eq, cases_lt, cond-true, or_cases, or_left, or_right, eq-eqb, eqb-true}
 use Rattle.lines.specs.declared.line.Source.{Source}
@@ -53,9 +58,25 @@ highest_some (suc n) p f = go (p n) refl (highest_some n p f)
     go true e (inl z) = inr (n, omega arith, e, omega arith)
     go true e (inr (m, lt, t, q)) = ⊎_elim (λ lt. inr (n, omega arith, e, omega arith)) (λ le. inr (m, omega arith, t, omega arith)) (cases_lt (highest n p f) (f n))
 
--- a turn of the scan for the highest
-pub high_next : (p : ℕ → Bool) (f : ℕ → ℕ) (m best x r : ℕ) → best ≡ highest m p f → x ≡ cond (p m) (f m) 0 → r ≡ max x best → r ≡ highest (m + 1) p f
-high_next p f m best x r h q e = rw (add-one m) (e ∙ ap₂ max q h)
+-- one number more
+top_more : (b : Bool) (l : List ℕ) (x : ℕ) → unwrap_or (reduce max (l ++ cond b (x ∷ []) [])) 0 ≡ max (cond b x 0) (unwrap_or (reduce max l) 0)
+top_more true [] x = omega arith
+top_more true (y ∷ ys) x = omega (arith, fold-append max y ys (x ∷ []))
+top_more false l x = omega (arith, ap (λ k. unwrap_or (reduce max k) 0) (append-nil l))
+
+tops_more : (f : ℕ → ℕ) (b : Bool) (n : ℕ) → map f (cond b (n ∷ []) []) ≡ cond b (f n ∷ []) []
+tops_more f true n = refl
+tops_more f false n = refl
+
+-- the highest f of those numbers below n that pass the test
+pub highest_kept : (n : ℕ) (p : ℕ → Bool) (f : ℕ → ℕ) → unwrap_or (reduce max (map f (filter p (range_with_len 0 n)))) 0 ≡ highest n p f
+highest_kept zero p f = refl
+highest_kept (suc n) p f =
+    ap (λ l. unwrap_or (reduce max (map f (filter p l))) 0) (range_more n)
+    ∙ (ap (λ l. unwrap_or (reduce max (map f l)) 0) (filter-append p (range_with_len 0 n) (n ∷ []))
+    ∙ (ap (λ l. unwrap_or (reduce max l) 0) (map-append f (filter p (range_with_len 0 n)) (cond (p n) (n ∷ []) []) ∙ ap (λ l. map f (filter p (range_with_len 0 n)) ++ l) (tops_more f (p n) n))
+    ∙ (top_more (p n) (map f (filter p (range_with_len 0 n))) (f n)
+    ∙ ap (λ x. max (cond (p n) (f n) 0) x) (highest_kept n p f))))
 
 -- the highest of a list of sources
 source_holds : (f : ℕ → ℕ) (x : Source) (m : ℕ) → is_line m x ≡ true → f m ≤ source_top f x

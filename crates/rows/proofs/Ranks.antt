@@ -1,6 +1,6 @@
 -- From a node to the makers of what it reads a rank falls: 209 times the lines that reach it, and then its place in its codelet. Assumes nothing.
 use Rattle.std.proofs.Common.{◌≡◌, ℕ, zero, suc, ◌+◌, ◌-◌, ◌*◌, ◌<◌, ◌≤◌, Bool, true, false, cond, not, leb, Decides, refl, ap, ◌∙◌, subst, ⊎_elim, arith}
-use Rattle.std.proofs.lemmas.Bool.{both_ways, cases_Bool, cases_eq, cond-false, and_parts, or_left, not-true, leb-true, le-leb}
+use Rattle.std.proofs.lemmas.Bool.{false_from_ne_true, both_ways, cases_Bool, cond-false, and_parts, or_left, not-true, leb-true, le-leb}
 use Rattle.graph.specs.Paths.{Path, here}
 use Rattle.graph.specs.Rounds.{closure, reaches}
 use Rattle.graph.proofs.Paths.{path_from, path_to, path_edge, path_then}
@@ -14,60 +14,16 @@ use Rattle.codelets.specs.Codelets.{InCodelet, in_codelet}
 use Rattle.codelets.proofs.Paths.{codelet_decides}
 use Rattle.codelets.proofs.InOrder.{lower}
 use Rattle.codelets.proofs.Joining.{joined, read_of_lem}
+use Rattle.stages.specs.Filling.{tally}
+use Rattle.stages.proofs.Counts.{tally_most, tally_le, tally_lt}
 use Rattle.rows.specs.Sorts.{is_read}
 use Rattle.rows.specs.Makers.{read_inside, atom_reads, reads_as, makes}
 use Rattle.rows.specs.Rows.{highest, row_by, row_of}
 use Rattle.rows.proofs.Highest.{highest_same, highest_holds, highest_some}
 
-abbrev one : Bool → ℕ
-one true = 1
-one false = 0
-
--- how many numbers below n have p
-abbrev pub tally : ℕ → (ℕ → Bool) → ℕ
-tally zero p = 0
-tally (suc n) p = one (p n) + tally n p
-
-one_le : (a b : Bool) → (a ≡ true → b ≡ true) → one a ≤ one b
-one_le true true h = omega arith
-one_le true false h = absurd (both_ways false refl (h refl))
-one_le false true h = omega arith
-one_le false false h = omega arith
-
-one_most : (b : Bool) → one b ≤ 1
-one_most true = omega arith
-one_most false = omega arith
-
-pub tally_all : (n : ℕ) (p : ℕ → Bool) → tally n p ≤ n
-tally_all zero p = omega arith
-tally_all (suc n) p = let h = tally_all n p in let t = one_most (p n) in omega arith
-
-pub tally_le : (n : ℕ) (p q : ℕ → Bool) → ((k : ℕ) → k < n → p k ≡ true → q k ≡ true) → tally n p ≤ tally n q
-tally_le zero p q h = omega arith
-tally_le (suc n) p q h =
-    let t = tally_le n p q (λ k lt. h k (omega arith)) in let s = one_le (p n) (q n) (h n (omega arith)) in omega arith
-
-pub tally_lt : (n : ℕ) (p q : ℕ → Bool) (j : ℕ) → ((k : ℕ) → k < n → p k ≡ true → q k ≡ true) → j < n → p j ≡ false → q j ≡ true → tally n p < tally n q
-tally_lt zero p q j h lt off on = absurd (omega arith)
-tally_lt (suc n) p q j h lt off on = ⊎_elim at (λ ne. below (tally_lt n p q j (λ k lt. h k (omega arith)) (omega arith) off on)) (cases_eq j n)
-  where
-    at : j ≡ n → tally (suc n) p < tally (suc n) q
-    at e =
-        let t = tally_le n p q (λ k lt. h k (omega arith)) in
-        let a = ap one (subst (λ m. p m ≡ false) e off) in
-        let b = ap one (subst (λ m. q m ≡ true) e on) in
-        omega arith
-
-    below : tally n p < tally n q → tally (suc n) p < tally (suc n) q
-    below t = let s = one_le (p n) (q n) (h n (omega arith)) in omega arith
-
 off_le : (b : Bool) (n : ℕ) → cond b 0 (n + 1) ≤ n + 1
 off_le true n = omega arith
 off_le false n = omega arith
-
-false_of : (b : Bool) → (b ≡ true → ⊥) → b ≡ false
-false_of true h = absurd (h refl)
-false_of false h = refl
 
 module _ (r : Lines) where
   abbrev above : ℕ → ℕ → Bool
@@ -88,7 +44,7 @@ module _ (r : Lines) where
 
   strictly : (a n : ℕ) → Path r.count (edge r) a n → (Path r.count (edge r) n a → ⊥) → ancestors a < ancestors n
   strictly a n p never =
-      tally_lt r.count (λ m. above m a) (λ m. above m n) n (λ m _ e. (above_decides m n).1 (path_then r.count (edge r) ((above_decides m a).0 e) p)) (path_to r.count (edge r) p) (false_of (above n a) (λ e. never ((above_decides n a).0 e))) ((above_decides n n).1 (here (path_to r.count (edge r) p)))
+      tally_lt r.count (λ m. above m a) (λ m. above m n) n (λ m _ e. (above_decides m n).1 (path_then r.count (edge r) ((above_decides m a).0 e) p)) (path_to r.count (edge r) p) (false_from_ne_true (above n a) (λ e. never ((above_decides n a).0 e))) ((above_decides n n).1 (here (path_to r.count (edge r) p)))
 
   reads_path : (a n : ℕ) → n < r.count → read_by r a n ≡ true → Path r.count (edge r) a n
   reads_path a n h e = path_edge r.count (edge r) a n (let lt = lower r a n h e in omega arith) h (or_left (read_by r a n) _ e)
@@ -134,7 +90,7 @@ module _ (r : Lines) where
       go (Write s x) q t = falls_line a n h (ap is_read q) (ap (reads_line a) q ∙ t)
 
   rank_low : (n : ℕ) → n < r.count → rank n < 43681
-  rank_low n h = let t = tally_all r.count (λ m. above m n) in let o = off_le (is_read (line_at r n)) n in let few = r.few in omega arith
+  rank_low n h = let t = tally_most r.count (λ m. above m n) in let o = off_le (is_read (line_at r n)) n in let few = r.few in omega arith
 
   row_stable : (f g n : ℕ) → n < r.count → rank n < f → rank n < g → row_by r f n ≡ row_by r g n
   row_stable zero g n h lf lg = absurd (omega arith)
@@ -183,8 +139,8 @@ module _ (r : Lines) where
   enough (suc k) n h le =
       let t = enough k n h (omega arith) in
       let (m, hm, q) = each_row (row_of r n - suc k) (suc k) n h (omega arith) (omega arith) in
-      let s = tally_lt r.count (λ m. leb (row_of r m) k) (λ m. leb (row_of r m) (suc k)) m (λ i _ e. let u = leb-true (row_of r i) k e in le-leb (row_of r i) (suc k) (omega arith)) hm (false_of (leb (row_of r m) k) (λ e. let u = leb-true (row_of r m) k e in omega arith)) (le-leb (row_of r m) (suc k) (omega arith)) in
+      let s = tally_lt r.count (λ m. leb (row_of r m) k) (λ m. leb (row_of r m) (suc k)) m (λ i _ e. let u = leb-true (row_of r i) k e in le-leb (row_of r i) (suc k) (omega arith)) hm (false_from_ne_true (leb (row_of r m) k) (λ e. let u = leb-true (row_of r m) k e in omega arith)) (le-leb (row_of r m) (suc k) (omega arith)) in
       omega arith
 
   pub row_last : (n : ℕ) → n < r.count → row_of r n ≤ r.count
-  row_last n h = let t = enough (row_of r n) n h (omega arith) in let s = tally_all r.count (λ m. leb (row_of r m) (row_of r n)) in omega arith
+  row_last n h = let t = enough (row_of r n) n h (omega arith) in let s = tally_most r.count (λ m. leb (row_of r m) (row_of r n)) in omega arith

@@ -1,6 +1,6 @@
 -- What stands at a number, and that what a node reads a node makes. Assumes nothing.
 use Rattle.std.proofs.Common.{◌≡◌, ℕ, ◌+◌, ◌<◌, ◌≤◌, Bool, true, false, cond, not, ltb, ◌⊎◌, List, get_or, is_some, Some, None, Option, sym, refl, ap, ◌∙◌, subst, ap₂, inl, inr, ⊎_elim, arith}
-use Rattle.std.proofs.lemmas.Bool.{both_ways, cases_Bool, and_parts, and_from, not-true, not_from_false, lt-ltb, le-ltb, ltb-true}
+use Rattle.std.proofs.lemmas.Bool.{both_ways, false_from_ne_true, cases_Bool, and_parts, and_from, not-true, not_from_false, lt-ltb, le-ltb, ltb-true}
 use Rattle.graph.proofs.Paths.{path_to, path_then}
 use Rattle.graph.proofs.Rounds.{some_decides}
 use Rattle.lines.specs.declared.line.Line.{Line}
@@ -25,50 +25,36 @@ use Rattle.rows.specs.Placed.{Placed}
 use Rattle.rows.proofs.Highest.{highest_same}
 use Rattle.rows.proofs.Ranks.{rule_all, rule_only, rule_lower, row_first, row_last}
 
-false_of : (b : Bool) → (b ≡ true → ⊥) → b ≡ false
-false_of true h = absurd (h refl)
-false_of false h = refl
-
 -- the four tests behind a sort
 abbrev sort : Bool → Bool → Bool → Bool → Option Node
 sort a b c d = cond a (cond b (cond c (Some Atom) (cond d (Some Echo) None)) (Some Outside)) None
 
-pub sort_from : (r : Lines) (n : ℕ) (a b c d : Bool) → ltb n r.count ≡ a → owned r n ≡ b → is_read (line_at r n) ≡ c → echo r n ≡ d → sort a b c d ≡ sort_of r n
-sort_from r n a b c d p q u v =
-    sym (ap₂ (λ a b. cond a (cond b (owned_sort r n) (Some Outside)) None) p q ∙ ap₂ (λ c d. cond a (cond b (cond c (Some Atom) (cond d (Some Echo) None)) (Some Outside)) None) u v)
-
 pub sort_past : (r : Lines) (n : ℕ) → r.count ≤ n → sort_of r n ≡ None
 sort_past r n h = ap (λ a. cond a (cond (owned r n) (owned_sort r n) (Some Outside)) None) (le-ltb n r.count h)
 
-abbrev code : Option Node → ℕ
-code None = 0
-code (Some Outside) = 1
-code (Some Echo) = 2
-code (Some Atom) = 3
-
 line_tests : (a b c d : Bool) → sort a b c d ≡ Some Outside → (a ≡ true) × (b ≡ false)
-line_tests false b c d e = let z = ap code e in absurd (omega arith)
+line_tests false b c d e = absurd cc
 line_tests true false c d e = (refl, refl)
-line_tests true true true d e = let z = ap code e in absurd (omega arith)
-line_tests true true false true e = let z = ap code e in absurd (omega arith)
-line_tests true true false false e = let z = ap code e in absurd (omega arith)
+line_tests true true true d e = absurd cc
+line_tests true true false true e = absurd cc
+line_tests true true false false e = absurd cc
 
 echo_tests : (a b c d : Bool) → sort a b c d ≡ Some Echo → (c ≡ false) × (d ≡ true)
-echo_tests false b c d e = let z = ap code e in absurd (omega arith)
-echo_tests true false c d e = let z = ap code e in absurd (omega arith)
-echo_tests true true true d e = let z = ap code e in absurd (omega arith)
+echo_tests false b c d e = absurd cc
+echo_tests true false c d e = absurd cc
+echo_tests true true true d e = absurd cc
 echo_tests true true false true e = (refl, refl)
-echo_tests true true false false e = let z = ap code e in absurd (omega arith)
+echo_tests true true false false e = absurd cc
 
 atom_tests : (a b c d : Bool) → sort a b c d ≡ Some Atom → (a ≡ true) × (c ≡ true)
-atom_tests false b c d e = let z = ap code e in absurd (omega arith)
-atom_tests true false c d e = let z = ap code e in absurd (omega arith)
+atom_tests false b c d e = absurd cc
+atom_tests true false c d e = absurd cc
 atom_tests true true true d e = (refl, refl)
-atom_tests true true false true e = let z = ap code e in absurd (omega arith)
-atom_tests true true false false e = let z = ap code e in absurd (omega arith)
+atom_tests true true false true e = absurd cc
+atom_tests true true false false e = absurd cc
 
 node_below : (a b c d : Bool) → is_some (sort a b c d) ≡ true → a ≡ true
-node_below false b c d e = absurd (both_ways _ refl e)
+node_below false b c d e = absurd cc
 node_below true b c d e = refl
 
 some_sort : (x : Option Node) → is_some x ≡ true → (x ≡ Some Outside) ⊎ ((x ≡ Some Echo) ⊎ (x ≡ Some Atom))
@@ -98,7 +84,7 @@ read_state (Choose c a b) e = absurd (both_ways _ refl e)
 read_state (Write s a) e = absurd (both_ways _ refl e)
 
 pub unread_line : (l : Line) → ((s : ℕ) → l ≡ Read s → ⊥) → is_read l ≡ false
-unread_line l h = false_of (is_read l) (λ e. let (s, q) = read_state l e in h s q)
+unread_line l h = false_from_ne_true (is_read l) (λ e. let (s, q) = read_state l e in h s q)
 
 pub as_line : (r : Lines) (m : ℕ) (l : Line) → is_read l ≡ false → reads_as r m l ≡ reads_line m l
 as_line r m (Read s) e = absurd (both_ways _ e refl)
@@ -154,7 +140,7 @@ module _ (r : Lines) where
     outside_unread : sort_of r n ≡ Some Outside → is_read (line_at r n) ≡ false
     outside_unread e =
         let (h, o) = line_of e in
-        false_of (is_read (line_at r n)) (λ c. let (s, q) = read_state (line_at r n) c in let (k, p) = read_of_lem r s n h q in both_ways _ o (owned_by s n (subst (λ m. InCodelet r s m) p (joined r s k).read)))
+        false_from_ne_true (is_read (line_at r n)) (λ c. let (s, q) = read_state (line_at r n) c in let (k, p) = read_of_lem r s n h q in both_ways _ o (owned_by s n (subst (λ m. InCodelet r s m) p (joined r s k).read)))
 
     echo_unread : sort_of r n ≡ Some Echo → is_read (line_at r n) ≡ false
     echo_unread e = (echo_tests (ltb n r.count) (owned r n) (is_read (line_at r n)) (echo r n) e).0
@@ -180,7 +166,7 @@ module _ (r : Lines) where
   asked (by_echo m n q e) = (ap is_some q, as_line r m (line_at r n) (echo_unread n q) ∙ e)
   asked (by_atom m n s i k p c x d) = (
     ap is_some (atom_sort n s k p),
-    ap (reads_as r m) (ap (line_at r) (sym p) ∙ read_line r s k) ∙ and_from _ _ (not_from_false _ (false_of (in_codelet r s m) (λ e. d ((codelet_decides r s m).0 e)))) ((some_decides (read_inside r s m) r.count).1 (i, path_to r.count (edge r) c.from, and_from _ _ ((codelet_decides r s i).1 c) x)),
+    ap (reads_as r m) (ap (line_at r) (sym p) ∙ read_line r s k) ∙ and_from _ _ (not_from_false _ (false_from_ne_true (in_codelet r s m) (λ e. d ((codelet_decides r s m).0 e)))) ((some_decides (read_inside r s m) r.count).1 (i, path_to r.count (edge r) c.from, and_from _ _ ((codelet_decides r s i).1 c) x)),
   )
 
   -- a line that is read from outside its codelet, or by an echo, is a node
@@ -203,10 +189,10 @@ module _ (r : Lines) where
   maker : {m n : ℕ} → Reads r m n → is_node r m ≡ true
   maker (by_line m n q e) =
       let (h, o) = line_of n q in
-      read_node m n h e (inl (λ s _. false_of (in_codelet r s n) (λ c. both_ways _ o ((some_decides (λ s. in_codelet r s n) 8).1 (s, named_below r s (and_parts (is_named r s) _ c).0, c)))))
+      read_node m n h e (inl (λ s _. false_from_ne_true (in_codelet r s n) (λ c. both_ways _ o ((some_decides (λ s. in_codelet r s n) 8).1 (s, named_below r s (and_parts (is_named r s) _ c).0, c)))))
   maker (by_echo m n q e) = let x = echo_of n q in read_node m n (inner_below r n (echo_inner r x)) e (inr x)
   maker (by_atom m n s i k p c x d) =
-      read_node m i (path_to r.count (edge r) c.from) x (inl (λ t a. false_of (in_codelet r t i) (λ b. let ta = (codelet_decides r t m).0 a in let tb = (codelet_decides r t i).0 b in d (record { named = k; from = path_then r.count (edge r) c.from (path_then r.count (edge r) tb.back ta.from); back = path_then r.count (edge r) ta.back (path_then r.count (edge r) tb.from c.back) }))))
+      read_node m i (path_to r.count (edge r) c.from) x (inl (λ t a. false_from_ne_true (in_codelet r t i) (λ b. let ta = (codelet_decides r t m).0 a in let tb = (codelet_decides r t i).0 b in d (record { named = k; from = path_then r.count (edge r) c.from (path_then r.count (edge r) tb.back ta.from); back = path_then r.count (edge r) ta.back (path_then r.count (edge r) tb.from c.back) }))))
 
   pub made : (m n : ℕ) → Made r m n
   made m n = record { reads = (λ e. let (o, t) = and_parts (is_node r n) _ e in told n m o t, λ x. let (o, t) = asked x in and_from _ _ o t); maker = maker }

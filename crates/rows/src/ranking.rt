@@ -1,13 +1,12 @@
 // The rows of nodes, by passes that raise numbers until none has to rise.
-ghost use Rattle.std.specs.Prelude.{◌≡◌, ℕ, ◌<◌, if◌then◌else◌, slice_index};
-ghost use Rattle.line_graph.specs.Edges.{line_at};
-ghost use Rattle.codelets.specs.Codelets.{in_codelet};
+ghost use Rattle.std.specs.Prelude.{◌≡◌, ℕ, ◌<◌, slice_index};
 ghost use Rattle.rows.specs.Makers.{makes};
 ghost use Rattle.rows.specs.Rows.{highest, row_of};
 ghost use Rattle.rows.specs.Passes.{row_at, source_top, line_top, outside_of, atom_top, Under, Passed};
 
 use codelets::Codelets;
 use lines::{Line, Source};
+use std::array;
 use word::at;
 
 // The number at a source that is a line, or 0.
@@ -15,9 +14,8 @@ fn source_top(rows: &[usize; 208], source: Source) -> usize
     ensures { result ≡ source_top (row_at rows.now) source }
 {
     match source {
-        Source::Field(_) => 0,
         Source::Line(m) => at(rows, m as usize, 0),
-        Source::Constant(_) => 0,
+        Source::Field(_) | Source::Constant(_) => 0,
     }
 }
 
@@ -27,41 +25,24 @@ fn line_top(rows: &[usize; 208], line: Line) -> usize
 {
     match line {
         Line::Read(_) => 0,
-        Line::Copy(a) => source_top(rows, a),
-        Line::Add(a, b) => source_top(rows, a).max(source_top(rows, b)),
-        Line::Sub(a, b) => source_top(rows, a).max(source_top(rows, b)),
-        Line::Less(a, b) => source_top(rows, a).max(source_top(rows, b)),
-        Line::Equal(a, b) => source_top(rows, a).max(source_top(rows, b)),
+        Line::Copy(a) | Line::Write(_, a) => source_top(rows, a),
+        Line::Add(a, b) | Line::Sub(a, b) | Line::Less(a, b) | Line::Equal(a, b) => {
+            source_top(rows, a).max(source_top(rows, b))
+        }
         Line::Choose(c, a, b) => {
             let arms = source_top(rows, a).max(source_top(rows, b));
             source_top(rows, c).max(arms)
         }
-        Line::Write(_, a) => source_top(rows, a),
     }
 }
+
+// Codelets and a state's number stay two arguments: a struct of the two would have to ask for both anyway.
 
 // The numbers outside state s's codelet, and 0 inside.
 fn outside(c: &Codelets, s: usize, rows: &[usize; 208]) -> [usize; 208]
     ensures { (n : ℕ) → slice_index result n ≡ outside_of c.now.lines s (row_at rows.now) n }
 {
-    let mut seen = *rows;
-    for n in 0..208 {
-        if c.owns(s, n) {
-            seen[n] = 0;
-        }
-    }
-    seen
-}
-
-// The highest number that line i reads where it is in state s's codelet, or 0.
-fn part_top(c: &Codelets, s: usize, rows: &[usize; 208], i: usize) -> usize
-    ensures { result ≡ (if in_codelet c.now.lines s i then line_top (row_at rows.now) (line_at c.now.lines i) else 0) }
-{
-    if c.owns(s, i) {
-        line_top(rows, at(&c.lines.lines, i, Line::Read(0)))
-    } else {
-        0
-    }
+    array::from_fn(|n| if c.owns(s, n) { 0 } else { at(rows, n, 0) })
 }
 
 // The highest number that a line of state s's codelet reads from outside, or 0.
@@ -69,11 +50,11 @@ fn atom_top(c: &Codelets, s: usize, rows: &[usize; 208]) -> usize
     ensures { result ≡ atom_top c.now.lines s (row_at rows.now) }
 {
     let seen = outside(c, s, rows);
-    let mut best = 0;
-    for i in 0..c.lines.count {
-        best = part_top(c, s, &seen, i).max(best);
-    }
-    best
+    (0..c.lines.count)
+        .filter(|i| c.owns(s, *i))
+        .map(|i| line_top(&seen, c.lines.line(i)))
+        .max()
+        .unwrap_or(0)
 }
 
 // The highest number among the makers of what stands at n reads, or 0.
@@ -81,14 +62,14 @@ fn above(c: &Codelets, rows: &[usize; 208], n: usize) -> usize
     requires { n < c.now.lines.count }
     ensures { result ≡ highest c.now.lines.count (λ m. makes c.now.lines m n) (row_at rows.now) }
 {
-    let line = at(&c.lines.lines, n, Line::Read(0));
+    let line = c.lines.line(n);
     match line {
         Line::Read(s) => atom_top(c, s as usize, rows),
         _ => line_top(rows, line),
     }
 }
 
-// One pass over the lines; true where a number rose.
+// One pass over the lines; true where a number rose. Each turn reads the numbers that earlier ones raised, so it is no chain.
 fn pass(c: &Codelets, rows: &mut [usize; 208]) -> bool
     requires { Under c.now.lines rows.old }
     ensures { Passed c.now.lines rows.old rows.new result }
@@ -109,6 +90,7 @@ pub fn rows_of(c: &Codelets) -> [usize; 208]
     ensures { (n : ℕ) → n < c.now.lines.count → slice_index result n ≡ row_of c.now.lines n }
 {
     let mut rows = [0; 208];
+    // pass after pass, until one raises nothing: how many there are is not known before
     while pass(c, &mut rows) {}
     rows
 }

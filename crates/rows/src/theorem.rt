@@ -5,23 +5,17 @@ ghost use Rattle.rows.specs.Rows.{RowsStand};
 ghost use Rattle.rows.specs.Samples.{SamplesStand};
 
 // The nodes are the outside lines, the echoes and an atom for each named state; what a node reads a node makes.
-pub fn nodes_and_makers() -> u8
+pub fn nodes_and_makers()
     ensures nodes { SortsStand }
     ensures makers { MakersStand }
-{
-    0
-}
+{}
 
 // Rows exist and are unique, and what a node reads is made by a node of a lower row.
-pub fn rows_follow_their_rule() -> u8
+pub fn rows_follow_their_rule()
     ensures { RowsStand }
-{
-    0
-}
+{}
 
 // Worked examples: the sampling transaction's codelet, echo and rows; a chain of two states; two states in one codelet.
-pub fn samples_stand() -> u8
+pub fn samples_stand()
     ensures { SamplesStand }
-{
-    0
-}
+{}

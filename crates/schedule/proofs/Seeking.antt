@@ -1,7 +1,7 @@
 -- Seeking from one number on. Assumes nothing.
-use Rattle.std.proofs.Common.{◌≡◌, ℕ, zero, suc, ◌+◌, ◌-◌, ◌<◌, ◌≤◌, cond, eqb, ◌⊎◌, List, [], ◌∷◌, length, get_or, drop, set, sym, refl, ap, ◌∙◌, subst, inl, inr, add-one, arith, length-set, drop-cons, get_or-set_other, get_or-set_same}
-use Rattle.std.proofs.lemmas.Bool.{cases_eq, eq-eqb, ne_eqb}
-use Rattle.schedule.specs.Seek.{seek, seek_from, Sought, SeekFinds}
+use Rattle.std.proofs.Common.{◌≡◌, ℕ, zero, suc, ◌+◌, ◌-◌, ◌<◌, ◌≤◌, Bool, true, false, cond, eqb, ltb, ◌⊎◌, List, [], ◌∷◌, length, get_or, drop, set, Some, None, Option, sym, refl, ap, ◌∙◌, subst, inl, inr, unwrap_or, add-one, arith, length-set, drop-cons, get_or-set_other, get_or-set_same, ltb-false}
+use Rattle.std.proofs.lemmas.Bool.{cases_eq, cond-true, cond-false, eq-eqb, ne_eqb, lt-ltb, le-ltb}
+use Rattle.schedule.specs.Seek.{seek, seek_from, first_from, Sought, SeekFinds, FirstTells}
 
 drop_end : (xs : List ℕ) (n : ℕ) → length xs ≤ n → drop n xs ≡ []
 drop_end [] zero h = refl
@@ -42,41 +42,64 @@ found_after (suc left) stages k n h = found_more stages k n (omega arith) (found
 pub seek_finds : SeekFinds
 seek_finds stages k n h = found_after (length stages - n) stages k n (omega arith)
 
+-- a number where it is below the end
+abbrev below : ℕ → ℕ → Option ℕ
+below end m = cond (ltb m end) (Some m) None
+
+pub first_end : (stages : List ℕ) (k n : ℕ) → length stages ≤ n → first_from stages k n ≡ None
+first_end stages k n h =
+    ap {B = Option ℕ} (below (length stages)) (seek_end stages k n h) ∙ cond-false (ltb n (length stages)) (Some n) None (le-ltb n (length stages) h)
+
+pub first_here : (stages : List ℕ) (k n : ℕ) → n < length stages → get_or stages n 0 ≡ k → first_from stages k n ≡ Some n
+first_here stages k n h e =
+    ap {B = Option ℕ} (below (length stages)) (seek_here stages k n h e) ∙ cond-true (ltb n (length stages)) (Some n) None (lt-ltb n (length stages) h)
+
+pub first_on : (stages : List ℕ) (k n : ℕ) → n < length stages → (get_or stages n 0 ≡ k → ⊥) → first_from stages k n ≡ first_from stages k (n + 1)
+first_on stages k n h ne = ap {B = Option ℕ} (below (length stages)) (seek_on stages k n h ne)
+
+-- so it tells what is sought
+below_or : (b : Bool) (end m : ℕ) → ltb m end ≡ b → m ≤ end → unwrap_or (cond b (Some m) None) end ≡ m
+below_or true end m e h = refl
+below_or false end m e h = let g = ltb-false m end e in omega arith
+
+pub first_tells : FirstTells
+first_tells stages k n h = below_or (ltb (seek stages k n) (length stages)) (length stages) (seek stages k n) refl (seek_finds stages k n h).within
+
 -- A sweep from the last number down: the nodes from n on are threaded.
-pub record Threaded (stages first next : List ℕ) (n : ℕ) : Type 0 where
+pub record Threaded (stages : List ℕ) (first next : List (Option ℕ)) (n : ℕ) : Type 0 where
   pub first_long : length first ≡ 33
   pub next_long : length next ≡ 208
-  pub firsts : (k : ℕ) → k < 33 → get_or first k 208 ≡ seek stages k n
-  pub nexts : (m : ℕ) → n ≤ m → m < 208 → get_or stages m 0 < 33 → get_or next m 208 ≡ seek stages (get_or stages m 0) (m + 1)
+  pub firsts : (k : ℕ) → k < 33 → get_or first k None ≡ first_from stages k n
+  pub nexts : (m : ℕ) → n ≤ m → m < 208 → get_or stages m 0 < 33 → get_or next m None ≡ first_from stages (get_or stages m 0) (m + 1)
 
-pub thread_none : (stages first next : List ℕ) → length stages ≡ 208 → length first ≡ 33 → length next ≡ 208 → ((k : ℕ) → k < 33 → get_or first k 208 ≡ 208) → Threaded stages first next 208
+pub thread_none : (stages : List ℕ) (first next : List (Option ℕ)) → length stages ≡ 208 → length first ≡ 33 → length next ≡ 208 → ((k : ℕ) → k < 33 → get_or first k None ≡ None) → Threaded stages first next 208
 thread_none stages first next h a b e =
-    record { first_long = a; next_long = b; firsts = λ k lt. e k lt ∙ sym (seek_end stages k 208 (omega arith)); nexts = λ m c d. absurd (omega arith) }
+    record { first_long = a; next_long = b; firsts = λ k lt. e k lt ∙ sym (first_end stages k 208 (omega arith)); nexts = λ m c d. absurd (omega arith) }
 
 -- the node at n goes in front of the others of its stage
-pub thread_more : (stages first next first' next' : List ℕ) (n j : ℕ) → length stages ≡ 208 → j < 208 → n ≡ j + 1 → Threaded stages first next n → next' ≡ set next j (get_or first (get_or stages j 0) 208) → first' ≡ set first (get_or stages j 0) j → Threaded stages first' next' j
+pub thread_more : (stages : List ℕ) (first next first' next' : List (Option ℕ)) (n j : ℕ) → length stages ≡ 208 → j < 208 → n ≡ j + 1 → Threaded stages first next n → next' ≡ set next j (get_or first (get_or stages j 0) None) → first' ≡ set first (get_or stages j 0) (Some j) → Threaded stages first' next' j
 thread_more stages first next first' next' n j long lt en t eₙ e₁ =
     record {
-      first_long = ap length e₁ ∙ length-set first k j ∙ t.first_long;
-      next_long = ap length eₙ ∙ length-set next j (get_or first k 208) ∙ t.next_long;
-      firsts = λ i h. ap {B = ℕ} (λ (l : List ℕ). get_or l i 208) e₁ ∙ front i h (cases_eq i k);
-      nexts = λ m a b c. ap {B = ℕ} (λ (l : List ℕ). get_or l m 208) eₙ ∙ after m a b c (cases_eq m j);
+      first_long = ap length e₁ ∙ length-set first k (Some j) ∙ t.first_long;
+      next_long = ap length eₙ ∙ length-set next j (get_or first k None) ∙ t.next_long;
+      firsts = λ i h. ap {B = Option ℕ} (λ (l : List (Option ℕ)). get_or l i None) e₁ ∙ front i h (cases_eq i k);
+      nexts = λ m a b c. ap {B = Option ℕ} (λ (l : List (Option ℕ)). get_or l m None) eₙ ∙ after m a b c (cases_eq m j);
     }
   where
     k : ℕ
     k = get_or stages j 0
 
-    front : (i : ℕ) → i < 33 → (i ≡ k) ⊎ (i ≡ k → ⊥) → get_or (set first k j) i 208 ≡ seek stages i j
+    front : (i : ℕ) → i < 33 → (i ≡ k) ⊎ (i ≡ k → ⊥) → get_or (set first k (Some j)) i None ≡ first_from stages i j
     front i h (inl e) =
-        rw e (get_or-set_same first k j 208 (omega (arith, t.first_long)) ∙ sym (seek_here stages k j (omega arith) refl))
+        rw e (get_or-set_same first k (Some j) None (omega (arith, t.first_long)) ∙ sym (first_here stages k j (omega arith) refl))
     front i h (inr ne) =
-        get_or-set_other first k i j 208 ne ∙ t.firsts i h ∙ ap {B = ℕ} (seek stages i) en ∙ sym (seek_on stages i j (omega arith) (λ q. ne (sym q)))
+        get_or-set_other first k i (Some j) None ne ∙ t.firsts i h ∙ ap {B = Option ℕ} (first_from stages i) en ∙ sym (first_on stages i j (omega arith) (λ q. ne (sym q)))
 
-    after : (m : ℕ) → j ≤ m → m < 208 → get_or stages m 0 < 33 → (m ≡ j) ⊎ (m ≡ j → ⊥) → get_or (set next j (get_or first k 208)) m 208 ≡ seek stages (get_or stages m 0) (m + 1)
+    after : (m : ℕ) → j ≤ m → m < 208 → get_or stages m 0 < 33 → (m ≡ j) ⊎ (m ≡ j → ⊥) → get_or (set next j (get_or first k None)) m None ≡ first_from stages (get_or stages m 0) (m + 1)
     after m a b c (inl e) =
-        ap {B = ℕ} (λ (i : ℕ). get_or (set next j (get_or first k 208)) i 208) e
-        ∙ get_or-set_same next j (get_or first k 208) 208 (omega (arith, t.next_long))
+        ap {B = Option ℕ} (λ (i : ℕ). get_or (set next j (get_or first k None)) i None) e
+        ∙ get_or-set_same next j (get_or first k None) None (omega (arith, t.next_long))
         ∙ t.firsts k (subst (λ (i : ℕ). get_or stages i 0 < 33) e c)
-        ∙ ap {B = ℕ} (seek stages k) en
-        ∙ ap {B = ℕ} (λ (i : ℕ). seek stages (get_or stages i 0) (i + 1)) (sym e)
-    after m a b c (inr ne) = get_or-set_other next j m (get_or first k 208) 208 ne ∙ t.nexts m (omega arith) b c
+        ∙ ap {B = Option ℕ} (first_from stages k) en
+        ∙ ap {B = Option ℕ} (λ (i : ℕ). first_from stages (get_or stages i 0) (i + 1)) (sym e)
+    after m a b c (inr ne) = get_or-set_other next j m (get_or first k None) None ne ∙ t.nexts m (omega arith) b c

@@ -1,1 +1,2 @@
 pub mod Seek
+pub mod Nodes

@@ -4,154 +4,158 @@
 // Each line of input is answered by one line of output. The word `clamp` as an argument chooses the clamping arithmetic.
 #![tactic(auto)]
 
+#[cfg(test)]
+mod tests;
+
+use answering::{Spaced, answer_all, answer_fault};
 use image::read_image;
 use meaning::run;
-use std::alloc::{AllocError, Global};
-use std::io::{BufWriter, Read, Stdout, Write};
-use std::{env, io};
-use text::{TextFault, decode_hex, decode_words, line_end};
+use std::alloc::Global;
+use std::io::Write;
+use std::{env, fmt, io};
+use text::{InputLines, decode_hex, decode_words};
 use transaction::{Refusal, Transaction};
 use word::{Arithmetic, Clamp, Wrap};
 
-// What the first line gave.
+// Why the first line gave no transaction.
 #[derive(Clone, Copy)]
-enum Image {
-    Ready(Transaction),
+enum ImageFault {
     Refused(Refusal),
     Malformed,
 }
 
-fn write_words(out: &mut BufWriter<Stdout>, name: &str, words: &[u32]) -> io::Result<()> {
-    write!(out, "{name}")?;
-    for word in words {
-        write!(out, " {word}")?;
+// What a packet is answered then.
+impl fmt::Display for ImageFault {
+    fn fmt<W: fmt::Write>(&self, f: &mut fmt::Formatter<W>) -> fmt::Result {
+        match self {
+            ImageFault::Refused(refusal) => write!(f, "{refusal}"),
+            ImageFault::Malformed => write!(f, "no image"),
+        }
     }
-    Ok(())
 }
 
 // Answers the line of the image.
-fn load(heap: Global, line: &[u8], out: &mut BufWriter<Stdout>) -> anyhow::Result<Image> {
+fn load<W: Write>(
+    heap: Global,
+    line: &[u8],
+    out: &mut W,
+) -> anyhow::Result<Result<Transaction, ImageFault>> {
     let mut bytes = Vec::new(heap);
-    match decode_hex(line, &mut bytes) {
-        Ok(()) => {}
-        Err(TextFault::Malformed(column)) => {
-            writeln!(out, "malformed {column}")?;
-            return Ok(Image::Malformed);
-        }
-        Err(TextFault::Memory) => return Err(AllocError.into()),
+    if let Err(fault) = decode_hex(line, &mut bytes) {
+        answer_fault(out, fault)?;
+        return Ok(Err(ImageFault::Malformed));
     }
-    match read_image(bytes.as_slice()) {
+    match read_image(&bytes) {
         Ok(t) => {
-            let fields = t.fields;
-            let states = t.states;
-            let count = t.count;
             writeln!(
                 out,
-                "image fields {fields} states {states} statements {count}"
+                "image fields {} states {} statements {}",
+                t.fields, t.states, t.count
             )?;
-            Ok(Image::Ready(t))
+            Ok(Ok(t))
         }
         Err(fault) => {
-            let refusal = fault.refusal();
+            let refusal = Refusal::from(fault);
             writeln!(out, "{refusal}")?;
-            Ok(Image::Refused(refusal))
+            Ok(Err(ImageFault::Refused(refusal)))
         }
     }
 }
 
-// Answers the line of a packet that a transaction runs on.
-fn serve<M: Arithmetic>(
-    t: &Transaction,
-    fields: &mut [u32],
-    words: &mut [u32],
-    out: &mut BufWriter<Stdout>,
-) -> io::Result<()> {
-    match run::<M>(t, fields, words) {
-        Ok(()) => {
-            write_words(out, "fields", fields)?;
-            write_words(out, " words", words)?;
-            writeln!(out, "")
+// What packets run on.
+#[derive(Drop)]
+struct Session {
+    image: Result<Transaction, ImageFault>,
+    // the fields of the packet that runs
+    fields: Vec<u32>,
+    // the kept words
+    words: Vec<u32>,
+}
+
+impl Session {
+    // The image is answered, and the words are zeroed.
+    fn start<W: Write>(heap: Global, line: &[u8], out: &mut W) -> anyhow::Result<Session> {
+        let image = load(heap, line, out)?;
+        let words = match image {
+            Ok(t) => vec![in heap; 0; t.states as usize]?,
+            Err(_) => Vec::new(heap),
+        };
+        Ok(Session {
+            image,
+            fields: Vec::new(heap),
+            words,
+        })
+    }
+
+    // Answers the line of a packet.
+    fn answer<M: Arithmetic, W: Write>(&mut self, line: &[u8], out: &mut W) -> anyhow::Result<()> {
+        if let Err(fault) = decode_words(line, &mut self.fields) {
+            return answer_fault(out, fault);
         }
-        Err(fault) => {
-            let refusal = fault.refusal();
-            writeln!(out, "{refusal}")
+        match self.image {
+            Ok(t) => self.serve::<M, W>(&t, out)?,
+            Err(fault) => writeln!(out, "{fault}")?,
+        }
+        Ok(())
+    }
+
+    // Runs the transaction on the packet, and answers it.
+    fn serve<M: Arithmetic, W: Write>(&mut self, t: &Transaction, out: &mut W) -> io::Result<()> {
+        match run::<M>(t, &mut self.fields, &mut self.words) {
+            Ok(()) => {
+                let fields = Spaced(&self.fields);
+                let words = Spaced(&self.words);
+                writeln!(out, "fields{fields} words{words}")
+            }
+            Err(fault) => writeln!(out, "{}", Refusal::from(fault)),
         }
     }
 }
 
-// Answers the line of a packet.
-fn answer<M: Arithmetic>(
-    image: &Image,
-    line: &[u8],
-    fields: &mut Vec<u32>,
-    words: &mut Vec<u32>,
-    out: &mut BufWriter<Stdout>,
-) -> anyhow::Result<()> {
-    match decode_words(line, fields) {
-        Ok(()) => {}
-        Err(TextFault::Malformed(column)) => {
-            writeln!(out, "malformed {column}")?;
-            return Ok(());
-        }
-        Err(TextFault::Memory) => return Err(AllocError.into()),
-    }
-    match image {
-        Image::Ready(t) => serve::<M>(t, fields, words, out)?,
-        Image::Refused(refusal) => writeln!(out, "{refusal}")?,
-        Image::Malformed => writeln!(out, "no image")?,
-    }
-    Ok(())
-}
-
-// As many words of 0 as the transaction has states.
-fn zeroed(heap: Global, image: &Image) -> Result<Vec<u32>, AllocError> {
-    match image {
-        Image::Ready(t) => vec![in heap; 0; t.states as usize],
-        _ => Ok(Vec::new(heap)),
-    }
-}
-
-fn session<M: Arithmetic>(
+// Answers the lines of the input. Where it is empty, so is the line of the image.
+fn answer_input<M: Arithmetic, W: Write>(
     heap: Global,
     input: &[u8],
-    out: &mut BufWriter<Stdout>,
+    out: &mut W,
 ) -> anyhow::Result<()> {
-    let first = line_end(input, 0);
-    let image = load(heap, &input[0..first], out)?;
-    let mut words = zeroed(heap, &image)?;
-    let mut fields = Vec::new(heap);
-    let mut at = first.saturating_add(1);
-    while at < input.len() {
-        let end = line_end(input, at);
-        answer::<M>(&image, &input[at..end], &mut fields, &mut words, out)?;
-        at = end.saturating_add(1);
+    let mut lines = InputLines::new(input);
+    let mut session = Session::start(heap, lines.next().unwrap_or(&[]), out)?;
+    for line in lines {
+        session.answer::<M, W>(line, out)?;
     }
-    out.flush()?;
     Ok(())
+}
+
+// Answers them in the arithmetic that clamps, or else in the one that wraps.
+fn answer_chosen<W: Write>(
+    clamps: bool,
+    heap: Global,
+    input: &[u8],
+    out: &mut W,
+) -> anyhow::Result<()> {
+    if clamps {
+        answer_input::<Clamp, W>(heap, input, out)
+    } else {
+        answer_input::<Wrap, W>(heap, input, out)
+    }
+}
+
+fn chooses_clamp(word: &str) -> bool {
+    word == "clamp"
 }
 
 fn wants_clamp(rt: &HostRuntime) -> io::Result<bool> {
-    for arg in env::args(rt)?.skip(1) {
-        if arg.as_str() == "clamp" {
-            return Ok(true);
-        }
-    }
-    Ok(false)
-}
-
-fn read_and_run(rt: &HostRuntime) -> anyhow::Result<()> {
-    let heap = rt.alloc();
-    let mut input = Vec::new(heap);
-    let mut stdin = rt.stdin();
-    stdin.read_to_end(&mut input)?;
-    let mut out = BufWriter::new(heap, rt.stdout())?;
-    if wants_clamp(rt)? {
-        session::<Clamp>(heap, input.as_slice(), &mut out)
-    } else {
-        session::<Wrap>(heap, input.as_slice(), &mut out)
-    }
+    Ok(
+        env::args(rt)?
+            .skip(1)
+            .any(|word| chooses_clamp(word.as_str())),
+    )
 }
 
 fn main(rt: HostRuntime) -> anyhow::Result<()> {
-    read_and_run(&rt)
+    let heap = rt.alloc();
+    let clamps = wants_clamp(&rt)?;
+    answer_all(&rt, rt.stdin(), |input, out| {
+        answer_chosen(clamps, heap, input, out)
+    })
 }

@@ -1,5 +1,8 @@
 -- Counting the numbers below n that pass a test. Assumes nothing.
-use Rattle.std.proofs.Common.{◌≡◌, ℕ, zero, suc, ◌+◌, ◌<◌, ◌≤◌, Bool, true, false, ◌&&◌, ltb, ◌⊎◌, sym, refl, ap, ◌∙◌, subst, inl, inr, ⊎_elim, add-one, arith}
+use Rattle.std.proofs.Common.{◌≡◌, ℕ, zero, suc, ◌+◌, ◌<◌, ◌≤◌, Bool, true, false, cond, ◌&&◌, ltb, ◌⊎◌, [], ◌∷◌, ◌++◌, length, filter, sym, refl, ap, ◌∙◌, subst, inl, inr, ⊎_elim, map-id, add-one, arith, length-append}
+use Rattle.std.specs.List.{range_with_len}
+use Rattle.std.proofs.lemmas.List.Elements.{filter-append}
+use Rattle.std.proofs.lemmas.List.FromFn.{map-range_with_len_more}
 use Rattle.std.proofs.lemmas.Bool.{both_ways, cases_eq, lt-ltb, le-ltb}
 use Rattle.stages.specs.Filling.{one, tally}
 
@@ -19,7 +22,7 @@ one_apart true true c h f g = absurd (both_ways true (h refl) refl)
 one_apart true false c h f g = let s = ap one (f refl) in omega arith
 one_apart false b c h f g = let s = one_le b c g in omega arith
 
--- a counting loop: its start, and a turn by the answer that it got
+-- none below 0, and one number more
 pub tally_start : (p : ℕ → Bool) → tally 0 p ≡ 0
 unfolding tally
 tally_start p = refl
@@ -27,12 +30,6 @@ tally_start p = refl
 pub tally_suc : (n : ℕ) (p : ℕ → Bool) → tally (suc n) p ≡ one (p n) + tally n p
 unfolding tally
 tally_suc n p = refl
-
-pub tally_yes : (p : ℕ → Bool) (n b r : ℕ) → b ≡ tally n p → r ≡ b + 1 → p n ≡ true → r ≡ tally (n + 1) p
-tally_yes p n b r h e t = rw (add-one n) (let s = ap one t in let u = tally_suc n p in omega arith)
-
-pub tally_no : (p : ℕ → Bool) (n b r : ℕ) → b ≡ tally n p → r ≡ b → p n ≡ false → r ≡ tally (n + 1) p
-tally_no p n b r h e t = rw (add-one n) (let s = ap one t in let u = tally_suc n p in omega arith)
 
 pub tally_most : (n : ℕ) (p : ℕ → Bool) → tally n p ≤ n
 tally_most zero p = let u = tally_start p in omega arith
@@ -127,6 +124,25 @@ tally_bound (suc n) b p h = ⊎_elim at (λ ne. past (omega arith) (tally_bound 
         let u = tally_suc n (λ m. ltb m b && p m) in
         let s = ap one (ap (λ t. t && p n) (le-ltb n b le)) in
         omega arith
+
+-- the same numbers as a list, and how many of them are kept
+pub range_more : (n : ℕ) → range_with_len 0 (suc n) ≡ range_with_len 0 n ++ n ∷ []
+range_more n = ap (range_with_len 0) (sym (add-one n)) ∙ (sym (map-id (range_with_len 0 (n + 1))) ∙ map-range_with_len_more (λ x. x) 0 n n (omega arith) ∙ ap (λ l. l ++ n ∷ []) (map-id (range_with_len 0 n)))
+
+kept_more : (b : Bool) (n : ℕ) → length (cond b (n ∷ []) []) ≡ one b
+kept_more true n = refl
+kept_more false n = refl
+
+pub tally_kept : (n : ℕ) (p : ℕ → Bool) → length (filter p (range_with_len 0 n)) ≡ tally n p
+tally_kept zero p = sym (tally_start p)
+tally_kept (suc n) p =
+    let e = ap (λ l. length (filter p l)) (range_more n) in
+    let f = ap length (filter-append p (range_with_len 0 n) (n ∷ [])) in
+    let g = length-append (filter p (range_with_len 0 n)) (filter p (n ∷ [])) in
+    let h = kept_more (p n) n in
+    let t = tally_kept n p in
+    let u = tally_suc n p in
+    omega arith
 
 pub tally_all : (n : ℕ) (p : ℕ → Bool) → tally n (λ m. ltb m n && p m) ≡ tally n p
 tally_all n p = tally_bound n n p (omega arith)

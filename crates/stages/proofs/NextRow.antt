@@ -1,23 +1,36 @@
 -- The next row that has a node. Assumes nothing.
-use Rattle.std.proofs.Common.{◌≡◌, ℕ, zero, suc, ◌+◌, ◌<◌, ◌≤◌, Bool, true, false, cond, Some, None, Option, sym, refl, ap, ◌∙◌, subst, ⊎_elim, add-one, arith}
+use Rattle.std.proofs.Common.{◌≡◌, ℕ, zero, suc, ◌<◌, ◌≤◌, min, Bool, true, false, cond, List, [], ◌∷◌, ◌++◌, map, filter, Some, None, Option, sym, refl, ap, ◌∙◌, subst, ⊎_elim, append-nil, arith}
+use Rattle.std.specs.List.{range_with_len, reduce}
+use Rattle.std.proofs.lemmas.List.{map-append}
+use Rattle.std.proofs.lemmas.List.Elements.{filter-append}
+use Rattle.std.proofs.lemmas.List.Sums.{fold-append}
 use native.Mathlib.Nat.{min-le_left, min-le_right, min-eq_left, min-eq_right}
-use Rattle.std.proofs.lemmas.Bool.{both_ways, cases_eq, cases_lt, cond-true, cond-false}
+use Rattle.std.proofs.lemmas.Bool.{both_ways, cases_eq, cases_lt}
 use Rattle.stages.specs.declared.node.Nodes.{Nodes}
 use Rattle.stages.specs.Filling.{row_of}
 use Rattle.stages.specs.Rows.{lower, comes_after, next_row}
+use Rattle.stages.proofs.Counts.{range_more}
 
--- the loop over the nodes: its start, and a turn by the answer that it got
-pub next_start : (x : Nodes) (prior : Option ℕ) → next_row x prior 0 ≡ None
-unfolding next_row
-next_start x prior = refl
+-- one row more
+lower_more : (b : Bool) (l : List ℕ) (r : ℕ) → reduce min (l ++ cond b (r ∷ []) []) ≡ cond b (Some (lower (reduce min l) r)) (reduce min l)
+lower_more true [] r = refl
+lower_more true (x ∷ xs) r = ap Some (fold-append min x xs (r ∷ []))
+lower_more false l r = ap (reduce min) (append-nil l)
 
-pub next_yes : (x : Nodes) (prior : Option ℕ) (n low r : ℕ) (b o : Option ℕ) → b ≡ next_row x prior n → r ≡ row_of x n → low ≡ lower b r → o ≡ Some low → comes_after x prior n ≡ true → o ≡ next_row x prior (n + 1)
-unfolding next_row
-next_yes x prior n low r b o h q l e t = rw (add-one n) (e ∙ (ap Some (l ∙ (ap (lower b) q ∙ ap (λ z. lower z (row_of x n)) h)) ∙ sym (cond-true (comes_after x prior n) _ _ t)))
+rows_more : (x : Nodes) (b : Bool) (n : ℕ) → map (row_of x) (cond b (n ∷ []) []) ≡ cond b (row_of x n ∷ []) []
+rows_more x true n = refl
+rows_more x false n = refl
 
-pub next_no : (x : Nodes) (prior : Option ℕ) (n : ℕ) (b o : Option ℕ) → b ≡ next_row x prior n → o ≡ b → comes_after x prior n ≡ false → o ≡ next_row x prior (n + 1)
+-- the lowest row of those nodes before n that come after
+pub next_kept : (x : Nodes) (prior : Option ℕ) (n : ℕ) → reduce min (map (row_of x) (filter (comes_after x prior) (range_with_len 0 n))) ≡ next_row x prior n
 unfolding next_row
-next_no x prior n b o h e t = rw (add-one n) (e ∙ (h ∙ sym (cond-false (comes_after x prior n) _ _ t)))
+next_kept x prior zero = refl
+next_kept x prior (suc n) =
+    ap (λ l. reduce min (map (row_of x) (filter (comes_after x prior) l))) (range_more n)
+    ∙ ap (λ l. reduce min (map (row_of x) l)) (filter-append (comes_after x prior) (range_with_len 0 n) (n ∷ []))
+    ∙ ap (reduce min) (map-append (row_of x) (filter (comes_after x prior) (range_with_len 0 n)) (cond (comes_after x prior n) (n ∷ []) []) ∙ ap (λ l. map (row_of x) (filter (comes_after x prior) (range_with_len 0 n)) ++ l) (rows_more x (comes_after x prior n) n))
+    ∙ lower_more (comes_after x prior n) (map (row_of x) (filter (comes_after x prior) (range_with_len 0 n))) (row_of x n)
+    ∙ ap (λ o. cond (comes_after x prior n) (Some (lower o (row_of x n))) o) (next_kept x prior n)
 
 -- the lowest row above the given one among the nodes before n
 abbrev pub Least : Nodes → Option ℕ → ℕ → Option ℕ → Type 0

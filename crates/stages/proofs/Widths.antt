@@ -1,7 +1,8 @@
 -- The stages that rows take. Assumes nothing.
-use Rattle.std.proofs.Common.{◌≡◌, ℕ, zero, suc, ◌+◌, ◌-◌, ◌*◌, ◌/◌, ◌<◌, ◌≤◌, max, Bool, true, false, cond, ◌&&◌, eqb, ltb, is_some, Some, None, Option, refl, ap, subst, ⊎_elim, div-lt_iff_lt-mul, add-mul, one-mul, le-div_iff_mul-le, le-mul_of_pos_right, div-mul-le_self, arith}
+use Rattle.std.proofs.Common.{◌≡◌, ℕ, zero, suc, ◌+◌, ◌-◌, ◌*◌, ◌/◌, ◌%◌, ◌<◌, ◌≤◌, min, max, Bool, true, false, cond, ◌&&◌, eqb, ltb, is_some, Some, None, Option, refl, ap, subst, ⊎_elim, div-lt_iff_lt-mul, add-mul, one-mul, le-div_iff_mul-le, le-mul_of_pos_right, div-mul-le_self, arith}
 use native.Mathlib.Nat.{max-le, le-max_left, le-max_right}
 use Rattle.std.proofs.lemmas.Bool.{false≢true, cases_Bool, cases_eq, cond-true, and_parts, and_from, and_right, eqb-true, ne_eqb, ltb-true, lt-ltb}
+use Rattle.std.proofs.lemmas.Grind.{div_ceil_times}
 use Rattle.stages.specs.declared.node.Node.{Node}
 use Rattle.stages.specs.declared.node.Slot.{Slot}
 use Rattle.stages.specs.declared.node.Slot.TheVariants.{Stateless, Stateful}
@@ -17,6 +18,19 @@ ceiling_room i m room pos lt =
     let d = div-mul-le_self i room in
     let small : (i / room + 1) * room ≤ m + (room - 1) = omega arith in
     let t = (le-div_iff_mul-le {k = room} {x = i / room + 1} {y = m + (room - 1)} (omega arith)).1 small in
+    omega arith
+
+-- rounded up, as it is worked out
+pub ceiling_is : (m room : ℕ) → 1 ≤ room → m / room + min 1 (m % room) ≡ ceiling m room
+ceiling_is m room pos =
+    let q : ℕ = m / room + min 1 (m % room) in
+    let t = div_ceil_times m room pos in
+    let s = add-mul q 1 room in
+    let o = one-mul room in
+    let small : q * room ≤ m + (room - 1) = omega arith in
+    let large : m + (room - 1) < (q + 1) * room = omega arith in
+    let a = (le-div_iff_mul-le {k = room} {x = q} {y = m + (room - 1)} (omega arith)).1 small in
+    let b = (div-lt_iff_lt-mul {k = room} {x = m + (room - 1)} {y = q + 1} (omega arith)).1 large in
     omega arith
 
 -- no more stages than what fills them

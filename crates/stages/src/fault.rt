@@ -5,7 +5,7 @@ ghost use Rattle.stages.specs.Faults.{limit_refusal, stage_refusal};
 use transaction::Refusal;
 
 // The first limit that is out of its range.
-#[derive(Clone, Copy)]
+#[derive(Clone, Copy, Debug, PartialEq, Eq)]
 pub enum LimitFault {
     Stages,
     Lines,
@@ -13,17 +13,17 @@ pub enum LimitFault {
 }
 
 // More stages are needed than there are: how many.
-#[derive(Clone, Copy)]
+#[derive(Clone, Copy, Debug, PartialEq, Eq)]
 pub struct StageFault {
     pub needed: usize,
 }
 
-impl LimitFault {
-    // The fault's number and place.
-    pub fn refusal(self) -> Refusal
-        ensures { result ≡ limit_refusal self }
-    {
-        let place = match self {
+// The fault's number and place.
+impl From<LimitFault> for Refusal {
+    ghost from_gives = { λ f r. r ≡ limit_refusal f };
+
+    fn from(f: LimitFault) -> Refusal {
+        let place = match f {
             LimitFault::Stages => 0,
             LimitFault::Lines => 1,
             LimitFault::Atoms => 2,
@@ -32,14 +32,14 @@ impl LimitFault {
     }
 }
 
-impl StageFault {
-    // The fault's number and place.
-    pub fn refusal(self) -> Refusal
-        ensures { result ≡ stage_refusal self }
-    {
+// The fault's number and place.
+impl From<StageFault> for Refusal {
+    ghost from_gives = { λ f r. r ≡ stage_refusal f };
+
+    fn from(f: StageFault) -> Refusal {
         Refusal {
             number: 10,
-            place: self.needed,
+            place: f.needed,
         }
     }
 }

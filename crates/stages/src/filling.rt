@@ -1,5 +1,5 @@
 // Filling stages with nodes, row after row.
-ghost use Rattle.std.specs.Prelude.{◌≡◌, ℕ, ◌+◌, ◌/◌, ◌<◌, ◌≤◌, max, length, if◌then◌else◌, Ok, Err, nat_eq, slice_index_or};
+ghost use Rattle.std.specs.Prelude.{◌≡◌, ℕ, ◌<◌, ◌≤◌, if◌then◌else◌, IfOk, nat_eq, slice_index_or};
 ghost use Rattle.stages.specs.Limits.{fault_of};
 ghost use Rattle.stages.specs.WellStaged.{too_deep, WellStaged};
 ghost use Rattle.stages.specs.Filling.{row_of, node_at, placed, stage_of, stage_count};
@@ -7,8 +7,9 @@ ghost use Rattle.stages.specs.Filling.{row_of, node_at, placed, stage_of, stage_
 use crate::fault::StageFault;
 use crate::limits::Limits;
 use crate::node::{Nodes, Stages};
-use word::{at, put};
+use word::at;
 
+// The limits stay a parameter of these methods: a struct of nodes and limits would make each contract longer.
 impl Nodes {
     // The stage of the node at n, or 0 where there is none; `start` stages hold the rows below its row.
     fn stage(&self, limits: &Limits, start: usize, n: usize) -> usize
@@ -25,27 +26,19 @@ impl Nodes {
     }
 
     // Writes the stages of a row's nodes.
-    fn place_row(&self, limits: &Limits, row: usize, start: usize, stage_of: &mut [usize])
-        requires few { start ≤ 208 }
-        requires long { length stage_of.old ≡ 208 }
+    fn place_row(&self, limits: &Limits, row: usize, start: usize, stage_of: &mut [usize; 208])
+        requires { start ≤ 208 }
         ensures { (n : ℕ) → n < 208 → slice_index_or stage_of.new n 0 ≡ (if nat_eq (row_of self.now n) row then placed self.now limits.now.lines limits.now.atoms start n (node_at self.now n) else slice_index_or stage_of.old n 0) }
     {
-        for n in 0..208 {
+        for (n, stage) in stage_of.iter_mut().enumerate() {
             if self.row(n) == row {
-                put(stage_of, n, self.stage(limits, start, n));
+                *stage = self.stage(limits, start, n);
             }
         }
     }
 }
 
-// A plan has a stage even where no row takes one.
-fn at_least_one(stages: usize) -> usize
-    ensures { result ≡ max 1 stages }
-{
-    1usize.max(stages)
-}
-
-// The stages that the nodes take, however many.
+// The stages that the nodes take, however many. A plan has a stage even where no row takes one.
 fn layout(nodes: &Nodes, limits: &Limits) -> Stages
     ensures each { (n : ℕ) → n < 208 → slice_index_or result.stage_of n 0 ≡ stage_of nodes.now limits.now.lines limits.now.atoms n }
     ensures count { result.count ≡ stage_count nodes.now limits.now.lines limits.now.atoms }
@@ -54,6 +47,7 @@ fn layout(nodes: &Nodes, limits: &Limits) -> Stages
     let mut stage_of = [0; 208];
     let mut needed = 0;
     let mut next = nodes.row_after(None);
+    // each row is found from the one before it, so there is no list of rows to go over
     while let Some(row) = next {
         nodes.place_row(limits, row, needed, &mut stage_of);
         needed += nodes.width(limits, row);
@@ -61,14 +55,14 @@ fn layout(nodes: &Nodes, limits: &Limits) -> Stages
     }
     Stages {
         stage_of,
-        count: at_least_one(needed),
+        count: needed.max(1),
     }
 }
 
 // Whether there are as many stages as are needed.
 fn check_depth(needed: usize, limits: &Limits) -> Result<(), StageFault>
     ensures answer { fault_of result ≡ too_deep limits.now.stages needed }
-    ensures within { elim result [ Ok u ↦ needed ≤ limits.now.stages | Err f ↦ Unit {0} ] }
+    ensures within { IfOk result (λ _. needed ≤ limits.now.stages) }
 {
     if needed > limits.stages {
         return Err(StageFault { needed });
@@ -81,10 +75,10 @@ fn check_depth(needed: usize, limits: &Limits) -> Result<(), StageFault>
 // them in the order of the table, and so do atoms. Without nodes there is one empty stage.
 pub fn fill(nodes: &Nodes, limits: &Limits) -> Result<Stages, StageFault>
     ensures refused { fault_of result ≡ too_deep limits.now.stages (stage_count nodes.now limits.now.lines limits.now.atoms) }
-    ensures count { elim result [ Ok s ↦ s.count ≡ stage_count nodes.now limits.now.lines limits.now.atoms | Err f ↦ Unit {0} ] }
-    ensures each { elim result [ Ok s ↦ ((n : ℕ) → n < 208 → slice_index_or s.stage_of n 0 ≡ stage_of nodes.now limits.now.lines limits.now.atoms n) | Err f ↦ Unit {0} ] }
-    ensures within { elim result [ Ok s ↦ s.count ≤ limits.now.stages | Err f ↦ Unit {0} ] }
-    ensures well { elim result [ Ok s ↦ WellStaged nodes.now limits.now.lines limits.now.atoms s | Err f ↦ Unit {0} ] }
+    ensures count { IfOk result (λ s. s.count ≡ stage_count nodes.now limits.now.lines limits.now.atoms) }
+    ensures each { IfOk result (λ s. (n : ℕ) → n < 208 → slice_index_or s.stage_of n 0 ≡ stage_of nodes.now limits.now.lines limits.now.atoms n) }
+    ensures within { IfOk result (λ s. s.count ≤ limits.now.stages) }
+    ensures well { IfOk result (λ s. WellStaged nodes.now limits.now.lines limits.now.atoms s) }
 {
     let stages = layout(nodes, limits);
     check_depth(stages.count, limits)?;

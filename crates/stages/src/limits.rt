@@ -1,6 +1,6 @@
 // The limits of a pipeline.
-ghost use Rattle.std.specs.Prelude.{◌≡◌, ◌≤◌, Ok, Err};
-ghost use Rattle.stages.specs.Limits.{fault_of, first_out};
+ghost use Rattle.std.specs.Prelude.{◌≡◌, ◌≤◌, if◌then◌else◌, IfOk};
+ghost use Rattle.stages.specs.Limits.{fault_of, ranged, first_out};
 
 use crate::fault::LimitFault;
 
@@ -21,25 +21,30 @@ pub struct Limits {
     ghost few_atoms: { atoms ≤ 8 },
 }
 
+// The number, where it is from 1 to the top, or else the fault.
+fn in_range(n: u32, top: u32, fault: LimitFault) -> Result<usize, LimitFault>
+    ensures { result ≡ (if ranged top n then Ok n else Err fault) }
+{
+    if (1..=top).contains(&n) {
+        Ok(n as usize)
+    } else {
+        Err(fault)
+    }
+}
+
 impl Limits {
     // The limits of these three numbers, or which of them is the first out of its range.
     pub fn new(d: u32, p: u32, q: u32) -> Result<Limits, LimitFault>
         ensures answer { fault_of result ≡ first_out d p q }
-        ensures kept { elim result [ Ok l ↦ (l.stages ≡ d) × (l.lines ≡ p) × (l.atoms ≡ q) | Err f ↦ Unit {0} ] }
+        ensures kept { IfOk result (λ l. (l.stages ≡ d) × (l.lines ≡ p) × (l.atoms ≡ q)) }
     {
-        if d < 1 || d > 32 {
-            return Err(LimitFault::Stages);
-        }
-        if p < 1 || p > 16 {
-            return Err(LimitFault::Lines);
-        }
-        if q < 1 || q > 8 {
-            return Err(LimitFault::Atoms);
-        }
+        let stages = in_range(d, 32, LimitFault::Stages)?;
+        let lines = in_range(p, 16, LimitFault::Lines)?;
+        let atoms = in_range(q, 8, LimitFault::Atoms)?;
         Ok(Limits {
-            stages: d as usize,
-            lines: p as usize,
-            atoms: q as usize,
+            stages,
+            lines,
+            atoms,
         })
     }
 }

@@ -1,7 +1,7 @@
 // The nodes of one row.
-ghost use Rattle.std.specs.Prelude.{◌≡◌, ◌+◌, ◌-◌, ◌/◌, ◌<◌, ◌≤◌};
-ghost use Rattle.stages.specs.Filling.{slot_of, takes, row_of, in_row, precedes, tally, ceiling, room, width};
-ghost use Rattle.stages.specs.Rows.{lower, comes_after, next_row};
+ghost use Rattle.std.specs.Prelude.{◌≡◌, ◌≤◌};
+ghost use Rattle.stages.specs.Filling.{slot_of, takes, row_of, in_row, precedes, tally, room, width};
+ghost use Rattle.stages.specs.Rows.{comes_after, next_row};
 
 use crate::limits::Limits;
 use crate::node::{Node, Nodes, Slot};
@@ -12,8 +12,7 @@ impl Node {
         ensures { result ≡ slot_of self }
     {
         match self {
-            Node::Line => Slot::Stateless,
-            Node::Echo => Slot::Stateless,
+            Node::Line | Node::Echo => Slot::Stateless,
             Node::Atom => Slot::Stateful,
         }
     }
@@ -24,11 +23,7 @@ impl Slot {
     fn takes(self, node: Option<Node>) -> bool
         ensures { result ≡ takes self node }
     {
-        match (self, node) {
-            (Slot::Stateless, Some(Node::Line | Node::Echo)) => true,
-            (Slot::Stateful, Some(Node::Atom)) => true,
-            _ => false,
-        }
+        node.is_some_and(|node| node.slot() == self)
     }
 }
 
@@ -42,24 +37,6 @@ impl Limits {
             Slot::Stateless => self.lines,
             Slot::Stateful => self.atoms,
         }
-    }
-}
-
-// m / room, rounded up.
-fn ceiling(m: usize, room: usize) -> usize
-    requires { (1 ≤ room) × ((room ≤ 16) × (m ≤ 208)) }
-    ensures { result ≡ ceiling m room }
-{
-    (m + (room - 1)) / room
-}
-
-// The lower of a row and another, where there is one.
-fn lower(best: Option<usize>, row: usize) -> usize
-    ensures { result ≡ lower best row }
-{
-    match best {
-        None => row,
-        Some(other) => other.min(row),
     }
 }
 
@@ -90,45 +67,32 @@ impl Nodes {
         ensures exact { result ≡ tally 208 (precedes self.now slot row n) }
         ensures few { result ≤ 208 }
     {
-        let mut found = 0;
-        for m in 0..208 {
-            if self.precedes(slot, row, n, m) {
-                found += 1;
-            }
-        }
-        found
+        (0..208).filter(|m| self.precedes(slot, row, n, *m)).count()
     }
 
     // How many stages the row takes.
     pub(crate) fn width(&self, limits: &Limits, row: usize) -> usize
         ensures { result ≡ width self.now limits.now.lines limits.now.atoms row }
     {
-        let lines = self.count(Slot::Stateless, row, 208);
-        let atoms = self.count(Slot::Stateful, row, 208);
-        ceiling(lines, limits.lines).max(ceiling(atoms, limits.atoms))
+        let for_lines = self.count(Slot::Stateless, row, 208).div_ceil(limits.lines);
+        let for_atoms = self.count(Slot::Stateful, row, 208).div_ceil(limits.atoms);
+        for_lines.max(for_atoms)
     }
 
     // Whether a node at n has a row above the given one, or any row where none is given.
     fn comes_after(&self, prior: Option<usize>, n: usize) -> bool
         ensures { result ≡ comes_after self.now prior n }
     {
-        match (at(&self.sorts, n, None), prior) {
-            (None, _) => false,
-            (Some(_), None) => true,
-            (Some(_), Some(row)) => row < self.row(n),
-        }
+        at(&self.sorts, n, None).is_some() && prior.is_none_or(|row| row < self.row(n))
     }
 
     // The lowest row above the given one, or of all where none is given, that has a node.
     pub(crate) fn row_after(&self, prior: Option<usize>) -> Option<usize>
         ensures { result ≡ next_row self.now prior 208 }
     {
-        let mut next = None;
-        for n in 0..208 {
-            if self.comes_after(prior, n) {
-                next = Some(lower(next, self.row(n)));
-            }
-        }
-        next
+        (0..208)
+            .filter(|n| self.comes_after(prior, *n))
+            .map(|n| self.row(n))
+            .min()
     }
 }

@@ -2,8 +2,6 @@
 ghost use Rattle.stages.specs.Worked.{Worked};
 
 // The stages of two small plans, computed from the rule.
-pub fn worked_examples() -> u8
+pub fn worked_examples()
     ensures { Worked }
-{
-    0
-}
+{}

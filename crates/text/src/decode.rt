@@ -27,6 +27,7 @@ fn carry_out<T: Copy>(
 fn add_items<T: Notation>(line: &[u8], items: &mut Vec<T>) -> Result<(), TextFault>
     ensures { Adds (reading T.Notation.stepped items.old.items line.now) result items.new.items }
 {
+    // a fold would have to hand on the Vec as well, and to end at a fault
     let mut begun = None;
     for (column, byte) in line.iter().enumerate() {
         begun = carry_out(T::step(begun, *byte), column, items)?;

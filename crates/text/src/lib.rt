@@ -5,8 +5,10 @@ mod decimal;
 mod decode;
 mod fault;
 mod hexadecimal;
+mod input;
 mod line;
 mod notation;
+mod request;
 mod step;
 #[cfg(test)]
 mod tests;
@@ -14,4 +16,6 @@ mod tests;
 pub use decimal::decode_words;
 pub use fault::TextFault;
 pub use hexadecimal::decode_hex;
+pub use input::InputLines;
 pub use line::{line_end, word_end};
+pub use request::decode_request;

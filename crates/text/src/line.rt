@@ -1,4 +1,4 @@
-// The lines of an input, and the words of a line.
+// Where a line of an input ends, and the first word of a line.
 ghost use Rattle.std.specs.Prelude.{◌≡◌, ℕ, ◌<◌, ◌≤◌, ◌≢◌, length, slice_index};
 ghost use Rattle.text.specs.Bytes.{First};
 
@@ -6,12 +6,9 @@ ghost use Rattle.text.specs.Bytes.{First};
 fn find_byte(input: &[u8], from: usize, byte: u8) -> usize
     ensures { First byte input.now from result }
 {
-    for i in from..input.len() {
-        if input[i] == byte {
-            return i;
-        }
-    }
-    input.len()
+    (from..input.len())
+        .find(|i| input[*i] == byte)
+        .unwrap_or(input.len())
 }
 
 // Where the line ends that begins at `from`: at a line feed, byte 10, or with the input.

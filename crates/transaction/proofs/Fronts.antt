@@ -6,7 +6,3 @@ module _ {A : Type 0} (l : List A) (n i : ℕ) where
   -- the item of a turn, and what is left
   pub left_at : (d : A) → i < length l → i < n → drop i (take n l) ≡ get_or l i d ∷ drop (i + 1) (take n l)
   left_at d h k = drop_more (take n l) i d (omega (arith, length-take n l)) ∙ ap (λ (x : A). x ∷ drop (i + 1) (take n l)) (get_or-take n l i d k)
-
-  -- nothing is left
-  pub none_left : n ≤ i → drop i (take n l) ≡ []
-  none_left h = drop_all i (take n l) (omega (arith, length-take n l))

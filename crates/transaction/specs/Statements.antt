@@ -8,6 +8,7 @@ use Rattle.transaction.specs.declared.statement.Place.{Place}
 use Rattle.transaction.specs.declared.statement.Place.TheVariants.{Field as AtField, State as AtState, Constant as AtConstant}
 use Rattle.transaction.specs.declared.statement.Kind.{Kind}
 use Rattle.transaction.specs.declared.statement.Kind.TheVariants.{Copy, Add, Sub, Less, Equal, Choose, If, Else, End}
+use Rattle.transaction.specs.declared.statement.UnknownKind.{UnknownKind}
 use Rattle.transaction.specs.declared.statement.Statement.{Statement}
 use Rattle.transaction.specs.declared.statement.Statement.TheVariants.{Copy as SCopy, Add as SAdd, Sub as SSub, Less as SLess, Equal as SEqual, Choose as SChoose, If as SIf, Else as SElse, End as SEnd}
 
@@ -30,6 +31,10 @@ kinded n =
     (cond (n == 6) (Some If)
     (cond (n == 7) (Some Else)
     (cond (n == 8) (Some End) None))))))))
+
+-- that a number is no kind's
+abbrev pub unknown : ℕ → UnknownKind
+unknown n = record { number = n }
 
 abbrev pub target_operand : Target → Operand
 target_operand (ToField i) = Field i

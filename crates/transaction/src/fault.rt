@@ -5,7 +5,7 @@ ghost use Rattle.transaction.specs.Faults.{read_refusal};
 use crate::refusal::Refusal;
 
 // Each case holds the byte offset that the refusal tells.
-#[derive(Clone, Copy)]
+#[derive(Clone, Copy, Debug, PartialEq, Eq)]
 pub enum ReadFault {
     // A number is absent, unended, too long, too big or not in its shortest form.
     Malformed(usize),
@@ -19,12 +19,12 @@ pub enum ReadFault {
     Trailing(usize),
 }
 
-impl ReadFault {
-    // The fault's number and place.
-    pub fn refusal(self) -> Refusal
-        ensures { result ≡ read_refusal self }
-    {
-        match self {
+// The fault's number and place.
+impl From<ReadFault> for Refusal {
+    ghost from_gives = { λ f r. r ≡ read_refusal f };
+
+    fn from(f: ReadFault) -> Refusal {
+        match f {
             ReadFault::Malformed(place) => Refusal { number: 3, place },
             ReadFault::OutOfRange(place) => Refusal { number: 4, place },
             ReadFault::Undefined(place) => Refusal { number: 5, place },

@@ -9,6 +9,7 @@ pub struct Frame<C> {
 }
 
 // The open ifs: the first `depth` of a table, outermost first.
+// A plain table and its depth: an `ArrayVec` would ask a default of `C`, which callers need not have.
 #[derive(Drop)]
 pub struct Nest<C> {
     pub depth: usize,

@@ -1,5 +1,5 @@
 // The open ifs.
-ghost use Rattle.std.specs.Prelude.{◌≡◌, ◌+◌, ◌-◌, ◌<◌, true, false, [], ◌∷◌, length, if◌then◌else◌, nat_lt, slice_set};
+ghost use Rattle.std.specs.Prelude.{◌≡◌, ◌+◌, ◌-◌, ◌<◌, true, false, [], ◌∷◌, length, reverse, if◌then◌else◌, nat_lt, slice_set};
 ghost use Rattle.transaction.specs.Frames.{frames_of, begun, turned, outer, elses};
 ghost use Rattle.transaction.specs.WellFormed.{opened, awaits};
 
@@ -17,8 +17,10 @@ impl<C> Frame<C> {
     pub fn crossed(self) -> Frame<C>
         ensures { result ≡ record { on = self.on; second = true } }
     {
-        let Frame { on, second: _ } = self;
-        Frame { on, second: true }
+        Frame {
+            second: true,
+            ..self
+        }
     }
 }
 
@@ -31,6 +33,13 @@ impl<C: Copy> Nest<C> {
             depth: 0,
             frames: [Frame::new(blank); 3],
         }
+    }
+
+    // The open ifs, outermost first.
+    pub fn open_ifs(&self) -> &[Frame<C>]
+        ensures { reverse result.now ≡ frames_of self.now }
+    {
+        &self.frames[..self.depth]
     }
 
     // One if more in the table.

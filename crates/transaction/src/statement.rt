@@ -1,9 +1,9 @@
 // The statements of a transaction and what they name.
-ghost use Rattle.std.specs.Prelude.{◌≡◌};
-ghost use Rattle.transaction.specs.Statements.{placed, kinded, kind_of, target_operand};
+ghost use Rattle.std.specs.Prelude.{◌≡◌, ok_or};
+ghost use Rattle.transaction.specs.Statements.{placed, kinded, unknown, kind_of, target_operand};
 
 // What a statement reads: a field of the packet, a state (a word kept in the switch) or a constant.
-#[derive(Clone, Copy)]
+#[derive(Clone, Copy, Debug, PartialEq, Eq)]
 pub enum Operand {
     Field(u8),
     State(u8),
@@ -11,14 +11,14 @@ pub enum Operand {
 }
 
 // What a statement assigns to.
-#[derive(Clone, Copy)]
+#[derive(Clone, Copy, Debug, PartialEq, Eq)]
 pub enum Target {
     Field(u8),
     State(u8),
 }
 
 // A statement: an assignment of one of six kinds, or a part of a branch.
-#[derive(Clone, Copy)]
+#[derive(Clone, Copy, Debug, PartialEq, Eq)]
 pub enum Statement {
     // target := a
     Copy(Target, Operand),
@@ -38,7 +38,7 @@ pub enum Statement {
 }
 
 // What the first number of a statement says.
-#[derive(Clone, Copy)]
+#[derive(Clone, Copy, Debug, PartialEq, Eq)]
 pub enum Kind {
     Copy,
     Add,
@@ -51,8 +51,14 @@ pub enum Kind {
     End,
 }
 
+// A number that is no kind's.
+#[derive(Clone, Copy, Debug, PartialEq, Eq)]
+pub struct UnknownKind {
+    pub number: u32,
+}
+
 // What the first number of an operand says: which field or state it is, or that a constant's number follows.
-#[derive(Clone, Copy)]
+#[derive(Clone, Copy, Debug, PartialEq, Eq)]
 pub enum Place {
     Field(u8),
     State(u8),
@@ -60,7 +66,8 @@ pub enum Place {
 }
 
 impl Place {
-    // The place of a number, where the fields are those below `fields` and the states those below `states`.
+    // The place of a number, where the fields are those below `fields` and the states those below `states`. No `TryFrom`,
+    // since the counts come beside the number.
     pub fn from_number(n: u32, fields: u8, states: u8) -> Option<Place>
         ensures { result ≡ placed fields states n }
     {
@@ -73,32 +80,34 @@ impl Place {
     }
 }
 
-impl Kind {
-    // The kind of a number.
-    pub fn from_number(n: u32) -> Option<Kind>
-        ensures { result ≡ kinded n }
-    {
+// The kind of a number.
+impl TryFrom<u32> for Kind {
+    type Error = UnknownKind;
+
+    ghost try_from_gives = { λ n r. r ≡ ok_or (kinded n) (unknown n) };
+
+    fn try_from(n: u32) -> Result<Kind, UnknownKind> {
         match n {
-            0 => Some(Kind::Copy),
-            1 => Some(Kind::Add),
-            2 => Some(Kind::Sub),
-            3 => Some(Kind::Less),
-            4 => Some(Kind::Equal),
-            5 => Some(Kind::Choose),
-            6 => Some(Kind::If),
-            7 => Some(Kind::Else),
-            8 => Some(Kind::End),
-            _ => None,
+            0 => Ok(Kind::Copy),
+            1 => Ok(Kind::Add),
+            2 => Ok(Kind::Sub),
+            3 => Ok(Kind::Less),
+            4 => Ok(Kind::Equal),
+            5 => Ok(Kind::Choose),
+            6 => Ok(Kind::If),
+            7 => Ok(Kind::Else),
+            8 => Ok(Kind::End),
+            _ => Err(UnknownKind { number: n }),
         }
     }
 }
 
-impl Target {
-    // The target, read.
-    pub fn operand(self) -> Operand
-        ensures { result ≡ target_operand self }
-    {
-        match self {
+// The target, read.
+impl From<Target> for Operand {
+    ghost from_gives = { λ t r. r ≡ target_operand t };
+
+    fn from(t: Target) -> Operand {
+        match t {
             Target::Field(i) => Operand::Field(i),
             Target::State(s) => Operand::State(s),
         }

@@ -6,6 +6,7 @@ use crate::statement::Statement;
 
 // What an image says: the counts and the first `count` statements of the table; the rest of the table has no meaning.
 // Every value of this type is well formed.
+// A plain table and its count: libraries use no heap, and a transaction is copied like a number, which no list can be.
 #[derive(Clone, Copy)]
 pub struct Transaction {
     pub fields: u8,

@@ -5,25 +5,24 @@ ghost use Rattle.updates.specs.Inner.{is_inner, inner_of, update_of};
 
 use codelets::Codelets;
 use line_graph::is_plain;
-use lines::{Line, Source};
+use lines::Source;
 use resolving::Codelet;
+use std::array;
 use word::at;
+
+// Codelets and a state's number stay two arguments of these functions: a struct of the two would have to ask for both anyway.
 
 // Whether line n is in state s's codelet, and neither its read line nor its write line.
 fn is_inner(codelets: &Codelets, s: usize, n: usize) -> bool
     ensures { result ≡ is_inner codelets.now.lines s n }
 {
-    codelets.owns(s, n) && is_plain(at(&codelets.lines.lines, n, Line::Read(0)))
+    codelets.owns(s, n) && is_plain(codelets.lines.line(n))
 }
 
 fn inner_lines(codelets: &Codelets, s: usize) -> [bool; 208]
     ensures { result ≡ inner_of codelets.now.lines s }
 {
-    let mut inner = [false; 208];
-    for n in 0..208 {
-        inner[n] = is_inner(codelets, s, n);
-    }
-    inner
+    array::from_fn(|n| is_inner(codelets, s, n))
 }
 
 // The number of state s's read line.

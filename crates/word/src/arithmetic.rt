@@ -29,7 +29,7 @@ pub trait Arithmetic {
 }
 
 // Works modulo 2^32.
-#[derive(Clone, Copy)]
+#[derive(Clone, Copy, Debug, PartialEq, Eq)]
 pub struct Wrap;
 
 impl Arithmetic for Wrap {
@@ -55,7 +55,7 @@ impl Arithmetic for Wrap {
 }
 
 // Stops at the ends: the top word for a larger sum, 0 for a difference below 0.
-#[derive(Clone, Copy)]
+#[derive(Clone, Copy, Debug, PartialEq, Eq)]
 pub struct Clamp;
 
 impl Arithmetic for Clamp {

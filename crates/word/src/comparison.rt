@@ -13,12 +13,12 @@ pub fn is_true(word: u32) -> bool
 pub fn less(a: u32, b: u32) -> u32
     ensures { result ≡ less_than a b }
 {
-    if a < b { 1 } else { 0 }
+    u32::from(a < b)
 }
 
 // 1 where the two are the same number, else 0.
 pub fn equal(a: u32, b: u32) -> u32
     ensures { result ≡ equal_to a b }
 {
-    if a == b { 1 } else { 0 }
+    u32::from(a == b)
 }

@@ -7,3 +7,4 @@ pub mod Shapes
 pub mod Running
 pub mod Tenth
 pub mod Told
+pub mod Serving

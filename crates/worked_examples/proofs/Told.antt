@@ -1,8 +1,12 @@
 -- What is told, from the verdict. Assumes nothing.
 use Rattle.std.proofs.Common.{◌≡◌, ℕ, Ok, Err, Result, ap}
 use Rattle.transaction.specs.declared.refusal.Refusal.{Refusal}
-use Rattle.image.specs.Reading.{Answer, good, bad}
+use Rattle.image.specs.Reading.{good, bad}
 use Rattle.worked_examples.specs.Images.{answered}
+
+-- a refusal is no number
+pub never_refused : (f : Refusal) (n : ℕ) → bad f ≡ good n → ⊥
+never_refused f n e = cc
 
 pub told_good : (r : Result ℕ Refusal) (n : ℕ) → answered r ≡ good n → r ≡ Ok n
 told_good (Ok m) n e = let same : m ≡ n = cc in ap Ok same

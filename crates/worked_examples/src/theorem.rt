@@ -2,8 +2,6 @@
 ghost use Rattle.worked_examples.specs.Worked.{WorkedExamples};
 
 // Sampling, two chained states, two crossed states, a countdown and the empty transaction.
-pub fn worked_examples() -> u8
+pub fn worked_examples()
     ensures { WorkedExamples }
-{
-    0
-}
+{}

@@ -1,35 +1,35 @@
 -- The states one after another.
-use Rattle.std.proofs.Common.{◌≡◌, ℕ, Bool, true, false, ◌&&◌, length, get_or, None, sym, refl, ap, ◌∙◌, subst}
-use Rattle.codelets.specs.Codelets.{is_named, write_of, meets}
+use Rattle.std.proofs.Common.{◌≡◌, ℕ, true, false, cond, length, get_or, Some, None, sym, refl, ap, ◌∙◌, ap₂}
+use Rattle.lines.specs.declared.lines.Lines.{Lines}
+use Rattle.codelets.specs.Codelets.{in_codelet, crowded}
 use Rattle.codelets.proofs.Turns.{get_or_all}
-use Rattle.codelets.proofs.Owners.{below_start, below_unnamed, below_named, below_owned, below_alone, coded, shared_crowded, smallest}
+use Rattle.codelets.proofs.Owners.{below_start, below_unnamed, below_named, below_owned, below_alone, coded, smallest}
 use Rattle.codelets.proofs.codelets.codelets_of.Goals as goal
-use Rattle.codelets.proofs.codelets.codelets_of.Goals.{then-at+else-shared, else-at}
+use Rattle.codelets.proofs.codelets.codelets_of.Goals.{then-named+else-is_shared, else-named}
 
-pub loop-s-init : goal.loop-s-init
-loop-s-init c = below_start _ _ refl (λ n. get_or_all 208 n None)
+pub loop-state-init : goal.loop-state-init
+loop-state-init c = below_start _ _ refl (λ n. get_or_all 208 n None)
 
-pub loop-s-preserved : goal.loop-s-preserved
-loop-s-preserved c =
-    elim c.if-at.branch [
-      | then-at+else-shared w ↦
-          let on : ℕ → Bool = λ n. get_or w.of-codelet.result.to.on n false && get_or w.of-codelet.result.back.on n false in
-          let named : is_named c.args.lines.now c.loop-s.s ≡ true = sym c.at.ensures ∙ w.if-at.true in
-          let found : (n : ℕ) → on n ≡ meets c.args.lines.now (write_of c.args.lines.now c.loop-s.s) n = subst (λ m. (n : ℕ) → on n ≡ meets c.args.lines.now m n) w.at-then-at.ensures w.of-codelet.ensures in
-          below_named c.args.lines.now c.loop-s.s named (sym (shared_crowded c.args.lines.now c.loop-s.s on named found) ∙ (sym w.shared.ensures ∙ w.if-shared.false)) c.loop-s.owner c.if-at.owner on (ap length w.owner-is ∙ w.claim.array_long) found c.loop-s.invariant (λ n h. ap (λ l. get_or l n None) w.owner-is ∙ w.claim.ensures n h)
-      | else-at w ↦ below_unnamed c.args.lines.now c.loop-s.s _ _ w.owner-is (sym c.at.ensures ∙ w.if-at.false) c.loop-s.invariant
+pub loop-state-preserved : goal.loop-state-preserved
+loop-state-preserved c =
+    elim c.if-named.branch [
+      | then-named+else-is_shared w ↦
+          let of = w.of-codelet.ensures in
+          let alone : crowded c.args.lines.now c.loop-state.state ≡ false = sym (ap₂ crowded of.lines of.state) ∙ (sym w.is_shared.ensures ∙ w.if-is_shared.false) in
+          let one = λ (n : ℕ) (r : Lines) (s : ℕ). cond (in_codelet r s n) (Some s) (get_or c.loop-state.owner n None) in
+          below_named _ _ alone _ _ (ap length w.owner-is ∙ w.claim.array_long) c.loop-state.invariant (λ n h. ap (λ l. get_or l n None) w.owner-is ∙ (w.claim.ensures n h ∙ ap₂ (one n) of.lines of.state))
+      | else-named w ↦ below_unnamed _ _ _ _ w.owner-is w.if-named.false c.loop-state.invariant
     ]
 
 pub invariant_of-result : goal.invariant_of-result
-invariant_of-result c = record { owned = below_owned _ _ _ c.loop-s-test.false c.loop-s.invariant; alone = below_alone _ _ _ c.loop-s-test.false c.loop-s.invariant }
+invariant_of-result c = record { owned = below_owned _ _ _ c.loop-state-test.false c.loop-state.invariant; alone = below_alone _ _ _ c.loop-state-test.false c.loop-state.invariant }
 
 pub returns : goal.returns
 returns c =
-    (refl, coded _ _ (below_owned _ _ _ c.loop-s-test.false c.loop-s.invariant) (below_alone _ _ _ c.loop-s-test.false c.loop-s.invariant))
+    (refl, coded _ _ (below_owned _ _ _ c.loop-state-test.false c.loop-state.invariant) (below_alone _ _ _ c.loop-state-test.false c.loop-state.invariant))
 
-pub returns-then-shared : goal.returns-then-shared
-returns-then-shared c =
-    let on : ℕ → Bool = λ n. get_or c.of-codelet.result.to.on n false && get_or c.of-codelet.result.back.on n false in
-    let named : is_named c.args.lines.now c.loop-s.s ≡ true = sym c.at.ensures ∙ c.if-at.true in
-    let found : (n : ℕ) → on n ≡ meets c.args.lines.now (write_of c.args.lines.now c.loop-s.s) n = subst (λ m. (n : ℕ) → on n ≡ meets c.args.lines.now m n) c.at-then-at.ensures c.of-codelet.ensures in
-    smallest _ _ _ c.loop-s.invariant (sym (shared_crowded c.args.lines.now c.loop-s.s on named found) ∙ (sym c.shared.ensures ∙ c.if-shared.true))
+pub returns-then-is_shared : goal.returns-then-is_shared
+returns-then-is_shared c =
+    let of = c.of-codelet.ensures in
+    let shared : crowded c.args.lines.now c.loop-state.state ≡ true = sym (ap₂ crowded of.lines of.state) ∙ (sym c.is_shared.ensures ∙ c.if-is_shared.true) in
+    smallest _ _ _ c.loop-state.invariant shared

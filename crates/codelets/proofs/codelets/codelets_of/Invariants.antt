@@ -2,5 +2,5 @@
 use Rattle.codelets.proofs.Owners.{Below}
 use Rattle.codelets.proofs.codelets.codelets_of.Given as goal
 
-abbrev pub invariant-loop-s : goal.invariant-loop-s
-invariant-loop-s l = Below l.lines l.owner l.s
+abbrev pub invariant-loop-state : goal.invariant-loop-state
+invariant-loop-state l = Below l.lines l.owner l.state

@@ -1,13 +1,11 @@
--- One of the final values is the line, or none is.
-use Rattle.std.proofs.Common.{sym, ap, ◌∙◌, arith}
-use Rattle.lines.specs.declared.line.Source.TheVariants.{Constant}
+-- What `any` finds among the final values.
+use Rattle.std.proofs.Common.{sym, ◌∙◌, rules, tests}
+use Rattle.std.proofs.lemmas.Iterator.{YieldsList-from_slice}
+use Rattle.std.proofs.lemmas.Iterator.Search.{any_from_yields_List}
 use Rattle.lines.specs.Layout.{is_line}
-use Rattle.echoes.proofs.Least.{any_one, any_none}
+use Rattle.lines.proofs.Naming.{any_of-list_any}
 use Rattle.echoes.proofs.search.is_final.Goals as goal
 
 pub returns : goal.returns
-returns c = sym (any_none (is_line c.args.n) c.args.lines.now.finals (Constant 0) (λ i h. c.loop-i.invariant i (omega (arith, c.args.lines.now.finals_long))))
-
-pub returns-then-is_line : goal.returns-then-is_line
-returns-then-is_line c =
-    sym (any_one (is_line c.args.n) c.args.lines.now.finals c.loop-i.i (Constant 0) (omega (arith, c.args.lines.now.finals_long)) (ap (is_line c.args.n) (sym c.at.ensures) ∙ (sym c.is_line.ensures ∙ c.if-is_line.true)))
+returns c =
+    any_from_yields_List (is_line c.args.n) _ _ c.any.result c.any.ensures.ran (YieldsList-from_slice c.args.lines.now.finals cc) (λ x b q k. search (rules, tests)) ∙ sym (any_of-list_any (is_line c.args.n) c.args.lines.now.finals)

@@ -1,23 +1,18 @@
-use Rattle.std.proofs.Common.{ℕ, ◌+◌, ◌++◌, take, drop, set, ap, ◌∙◌, arith, length-set}
-use Rattle.lines.specs.Build.{numbered}
-use Rattle.lines.proofs.States.{numbered_named, numbered_unnamed, all_numbered}
+use Rattle.std.proofs.Common.{◌∙◌, arith, length-set, tests}
+use Rattle.lines.proofs.States.{numbered_on, all_numbered}
 use Rattle.lines.proofs.build.number_states.Goals as goal
-use Rattle.lines.proofs.build.number_states.Goals.{then-named-s, else-named-s}
+
+pub overflow_add-next : goal.overflow_add-next
+overflow_add-next c = grind (arith, tests)
 
 pub loop-s-preserved : goal.loop-s-preserved
 loop-s-preserved c =
     let v = c.loop-s.invariant in
-    let N = c.args.named.now in
-    let s = c.loop-s.s in
-    let table = c.loop-s.numbers in
-    let next = c.loop-s.next in
-    let long = length-set table s next ∙ v.2 in
-    elim c.if-named-s.branch [
-      | then-named-s w ↦
-          (ap (λ (n : ℕ). take (s + 1) (set table s next) ++ numbered n (drop (s + 1) N)) w.next-is ∙ numbered_named N s (omega arith) next table (omega arith) w.if-named-s.true ∙ v.0, omega (arith, w.next-is), long)
-      | else-named-s w ↦
-          (ap (λ (n : ℕ). take (s + 1) (set table s next) ++ numbered n (drop (s + 1) N)) w.next-is ∙ numbered_unnamed N s (omega arith) next table (omega arith) w.if-named-s.false ∙ v.0, omega (arith, w.next-is), long)
-    ]
+    let on = numbered_on c.args.named.now c.loop-s.s (omega arith) c.loop-s.next c.loop-s.numbers c.from-next.result (omega arith) (λ t. rw t at c.from-next.ensures) (λ f. rw f at c.from-next.ensures) in (
+      on.1 ∙ v.0,
+      omega (arith, on.0),
+      length-set c.loop-s.numbers c.loop-s.s c.loop-s.next ∙ v.2,
+    )
 
 pub returns : goal.returns
 returns c = all_numbered c.args.named.now c.loop-s.s (omega arith) c.loop-s.next c.loop-s.numbers _ (omega arith) c.loop-s.invariant.0

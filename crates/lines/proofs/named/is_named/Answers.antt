@@ -1,16 +1,11 @@
-use Rattle.std.proofs.Common.{sym, ap, ◌∙◌, arith}
-use Rattle.transaction.proofs.Fronts.{none_left}
-use Rattle.lines.specs.Named.{some_names}
-use Rattle.lines.proofs.Naming.{named_here, not_here}
+use Rattle.std.proofs.Common.{rules, sym, ◌∙◌, tests}
+use Rattle.std.proofs.lemmas.Iterator.{YieldsList-from_slice}
+use Rattle.std.proofs.lemmas.Iterator.Search.{any_from_yields_List}
+use Rattle.transaction.specs.Programs.{statements_of}
+use Rattle.lines.specs.Named.{names}
+use Rattle.lines.proofs.Naming.{any_of-list_any}
 use Rattle.lines.proofs.named.is_named.Goals as goal
 
-pub returns-then-names_state : goal.returns-then-names_state
-returns-then-names_state c =
-    named_here c.args.s c.args.t.now.statements c.args.t.now.count c.loop-i.i _ (omega arith) c.loop-i-test.true c.if-names_state.ensures ∙ c.loop-i.invariant
-
-pub loop-i-preserved : goal.loop-i-preserved
-loop-i-preserved c =
-    not_here c.args.s c.args.t.now.statements c.args.t.now.count c.loop-i.i _ (omega arith) c.loop-i-test.true c.if-names_state.ensures ∙ c.loop-i.invariant
-
 pub returns : goal.returns
-returns c = sym (ap (some_names c.args.s) (none_left c.args.t.now.statements c.args.t.now.count c.loop-i.i c.loop-i-test.false)) ∙ c.loop-i.invariant
+returns c =
+    any_from_yields_List (names c.args.s) _ _ _ c.any.ensures.ran (YieldsList-from_slice (statements_of c.args.t.now) cc) (λ x b q k. search (rules, tests)) ∙ sym (any_of-list_any (names c.args.s) (statements_of c.args.t.now))

@@ -1,10 +1,11 @@
-use Rattle.std.proofs.Common.{ℕ, ◌≤◌, List, get_or, replicate, ap, arith}
+use Rattle.std.proofs.Common.{ℕ, List, get_or, replicate, ap, rules}
 use Rattle.std.proofs.lemmas.List.FromFn.{fill_by_all}
 use Rattle.resolving.specs.declared.packet.Packet.{Packet}
+use Rattle.word.proofs.Made.{made_at}
 use Rattle.machine.proofs.feed.entered.Goals as goal
 
 pub returns : goal.returns
 returns c =
-    let all : 16 ≤ c.loop-i.i = omega (arith, c.loop-i-test.false) in
-    let same = fill_by_all (λ (i : ℕ). get_or c.args.fields.now i 0) c.loop-i.incoming 16 0 c.loop-i.invariant.0 (λ k h. c.loop-i.invariant.1 k (omega arith)) in
-    ap {B = Packet} (λ (l : List ℕ). record { fields = l; lines = replicate 208 0 }) same
+    let field : ℕ → ℕ = λ i. get_or c.args.fields.now i 0 in
+    let each = made_at _ _ field 16 (λ i y q lt k. search rules) c.from_fn.result 0 c.from_fn.ensures.items in
+    ap {B = Packet} (λ (l : List ℕ). record { fields = l; lines = replicate 208 0 }) (fill_by_all field c.from_fn.result 16 0 c.from_fn.ensures.items.long each)

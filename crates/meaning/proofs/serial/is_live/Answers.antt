@@ -1,12 +1,11 @@
-use Rattle.std.proofs.Common.{◌≡◌, ℕ, reverse, take, refl, ap, ◌∙◌, arith}
-use Rattle.meaning.specs.Serial.{live}
-use Rattle.meaning.proofs.Turns.{live_more}
+use Rattle.std.proofs.Common.{rules, ap, ◌∙◌}
+use Rattle.std.proofs.lemmas.Iterator.{YieldsList-from_slice}
+use Rattle.std.proofs.lemmas.Iterator.Search.{all_from_yields_List}
+use Rattle.meaning.specs.Serial.{taken, live}
+use Rattle.meaning.proofs.Live.{live_reverse}
 use Rattle.meaning.proofs.serial.is_live.Goals as goal
-
-pub loop-k-preserved : goal.loop-k-preserved
-loop-k-preserved c = live_more c.args.nest.now.frames c.loop-k.k _ _ _ _ (omega arith) c.is_taken-all.ensures c.loop-k.invariant refl
 
 pub returns : goal.returns
 returns c =
-    let e : c.loop-k.k ≡ c.args.nest.now.depth = omega arith in
-    c.loop-k.invariant ∙ ap (λ (n : ℕ). live (reverse (take n c.args.nest.now.frames))) e
+    let open_ifs = c.open_ifs.result.now in
+    all_from_yields_List taken _ _ _ c.all.ensures.ran (YieldsList-from_slice open_ifs cc) (λ x b q k. search rules) ∙ live_reverse open_ifs ∙ ap live c.open_ifs.ensures

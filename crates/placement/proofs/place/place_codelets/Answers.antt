@@ -7,7 +7,7 @@ pub returns : goal.returns
 returns c =
     let k = c.args.codelets.now in
     let f = c.in_ok-stages.ensures in
-    let placed = c.table_of-nodes.ensures in (
+    let placed = c.nodes_of.ensures.placed in (
       refl,
       record {
         lines = refl;
@@ -17,7 +17,7 @@ returns c =
         count = f.count;
         within = f.within;
         filled = f.well;
-        earlier = earlier k.lines c.table_of-nodes.result.sorts c.table_of-nodes.result.rows placed _ _ _ f.well;
+        earlier = earlier k.lines c.nodes_of.result.table.sorts c.nodes_of.result.table.rows placed _ _ _ f.well;
       },
     )
 

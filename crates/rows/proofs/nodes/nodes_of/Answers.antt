@@ -4,4 +4,4 @@ use Rattle.rows.proofs.Sorting.{placed}
 use Rattle.rows.proofs.nodes.nodes_of.Goals as goal
 
 pub returns : goal.returns
-returns c = record { same = refl; placed = placed _ _ _ c.sorts_of-sort.ensures c.rows_of-rows.ensures }
+returns c = record { same = refl; placed = placed _ _ _ c.sorts_of-sorts.ensures c.rows_of-rows.ensures }

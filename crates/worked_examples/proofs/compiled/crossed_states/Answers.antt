@@ -2,5 +2,5 @@ use Rattle.worked_examples.proofs.Judging.{crossed_refused}
 use Rattle.worked_examples.proofs.Told.{told_bad}
 use Rattle.worked_examples.proofs.compiled.crossed_states.Goals as goal
 
-pub returns : goal.returns
-returns c = record { verdict = c.stages.ensures; told = told_bad _ _ (crossed_refused _ c.stages.ensures) }
+pub returns-clause-told : goal.returns-clause-told
+returns-clause-told c = told_bad _ _ (crossed_refused _ c.over_choices.ensures)

@@ -2,5 +2,5 @@ use Rattle.worked_examples.proofs.Judging.{sampling_shallow}
 use Rattle.worked_examples.proofs.Told.{told_bad}
 use Rattle.worked_examples.proofs.compiled.sampling_in_four_stages.Goals as goal
 
-pub returns : goal.returns
-returns c = record { verdict = c.stages.ensures; told = told_bad _ _ (sampling_shallow _ c.stages.ensures) }
+pub returns-clause-told : goal.returns-clause-told
+returns-clause-told c = told_bad _ _ (sampling_shallow _ c.over_choices.ensures)

@@ -2,5 +2,5 @@ use Rattle.worked_examples.proofs.Judging.{sampling_narrow}
 use Rattle.worked_examples.proofs.Told.{told_good}
 use Rattle.worked_examples.proofs.compiled.sampling_in_narrow_stages.Goals as goal
 
-pub returns : goal.returns
-returns c = record { verdict = c.stages.ensures; told = told_good _ _ (sampling_narrow _ c.stages.ensures) }
+pub returns-clause-told : goal.returns-clause-told
+returns-clause-told c = told_good _ _ (sampling_narrow _ c.over_choices.ensures)

@@ -1,8 +1,9 @@
-use Rattle.std.proofs.Common.{Some, sym, ◌∙◌}
+use Rattle.std.proofs.Common.{sym, ap, ◌∙◌}
+use Rattle.std.specs.Prelude.{is_some}
 use Rattle.choice.proofs.Arms.{choice_takes_lem}
 use Rattle.choice.proofs.choosing.ChoiceAtom.class.Goals as goal
 
-pub returns-in-Some : goal.returns-in-Some
-returns-in-Some g c =
-    c.takes_arms.ensures
-    ∙ sym (choice_takes_lem c.args.codelet.now c.args.decided.now g.A.Atom.takes c.args.update (Some c.in-Some.f) (sym c.if-class.ensures) (sym c.in-Some.ensures))
+pub returns-else-class : goal.returns-else-class
+returns-else-class g c =
+    let update = c.args.update.now in
+    c.is_some.ensures ∙ ap is_some c.taken_fork.ensures ∙ choice_takes_lem update.codelet.now update.decided g.A.Atom.takes update.source (sym c.if-class.ensures)

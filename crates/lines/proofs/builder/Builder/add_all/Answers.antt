@@ -1,29 +1,48 @@
-use Rattle.std.proofs.Common.{List, refl, ap, ◌∙◌, arith}
+use Rattle.std.proofs.Common.{◌≤◌, List, length, refl, sym, ap, ◌∙◌, arith, length-take}
+use Rattle.std.proofs.lemmas.List.{at_drop_all}
 use Rattle.transaction.specs.Frames.{elses}
-use Rattle.transaction.specs.Programs.{statements_of}
 use Rattle.transaction.specs.WellFormed.{nested}
 use Rattle.transaction.specs.declared.frame.Frame.{Frame}
+use Rattle.transaction.specs.declared.statement.Statement.{Statement}
 use Rattle.lines.specs.declared.line.Source.{Source}
-use Rattle.lines.specs.Build.{adds_all, adds}
+use Rattle.lines.specs.Build.{adds_all}
 use Rattle.lines.specs.View.{draft_of}
-use Rattle.lines.proofs.Additions.{fits_here, nests_on}
-use Rattle.lines.proofs.Loops.{turn, stop}
+use Rattle.lines.proofs.Additions.{fits_here, nests_on, adds_here}
 use Rattle.lines.proofs.builder.Builder.add_all.Goals as goal
 
-pub loop-i-init : goal.loop-i-init
-loop-i-init c = (refl, omega arith, ap (λ (fs : List (Frame Source)). nested (elses fs) (statements_of c.args.t.now)) c.requires.shallow ∙ c.args.t.now.well_nested)
+pub loop-x-init : goal.loop-x-init
+loop-x-init c =
+    let xs = c.body-x-items.result.now in
+    record {
+      made = refl;
+      count = omega arith;
+      nests = ap (λ (fs : List (Frame Source)). nested (elses fs) xs) c.requires.shallow ∙ ap (nested _) c.body-x-items.ensures ∙ c.args.t.now.well_nested;
+    }
 
 pub add-requires : goal.add-requires
 add-requires c =
-    record { room = omega arith; fitting = fits_here c.args.t.now.statements c.args.t.now.count c.loop-i.i _ (omega arith) c.loop-i-test.true (draft_of c.loop-i.self) c.loop-i.invariant.2 }
+    let t = c.args.t.now in
+    let few : length c.body-x-items.result.now ≤ 48 = omega (arith, ap length c.body-x-items.ensures, length-take t.count t.statements) in
+    record { room = omega arith; fitting = fits_here _ _ _ c.loop-x-test.true (draft_of c.loop-x.self) c.loop-x.invariant.nests }
 
-pub loop-i-preserved : goal.loop-i-preserved
-loop-i-preserved c =
-    let e = c.add.ensures in (
-      turn adds_all adds c.args.t.now.statements c.args.t.now.count c.loop-i.i (λ x xs d. refl) _ _ _ _ (omega arith) c.loop-i-test.true e.made c.loop-i.invariant.0,
-      omega arith,
-      nests_on c.args.t.now.statements c.args.t.now.count c.loop-i.i _ (omega arith) c.loop-i-test.true (draft_of c.loop-i.self) c.loop-i.invariant.2 _ e.made,
-    )
+pub loop-x-preserved : goal.loop-x-preserved
+loop-x-preserved c =
+    let e = c.add.ensures in
+    let v = c.loop-x.invariant in
+    record {
+      made = adds_here _ _ _ c.loop-x-test.true (draft_of c.loop-x.self) v.nests _ e.made ∙ v.made;
+      count = omega arith;
+      nests = nests_on _ _ _ c.loop-x-test.true (draft_of c.loop-x.self) v.nests _ e.made;
+    }
 
 pub returns : goal.returns
-returns c = record { made = stop adds_all adds c.args.t.now.statements c.args.t.now.count c.loop-i.i (λ d. refl) _ _ c.loop-i-test.false c.loop-i.invariant.0; count = omega arith }
+returns c =
+    let t = c.args.t.now in
+    let xs = c.body-x-items.result.now in
+    let few : length xs ≤ 48 = omega (arith, ap length c.body-x-items.ensures, length-take t.count t.statements) in
+    record {
+      made =
+          sym (at_drop_all (λ (ys : List Statement). adds_all ys (draft_of c.loop-x.self)) xs c.loop-x.x-index (omega arith)) ∙ c.loop-x.invariant.made
+          ∙ ap (λ (ys : List Statement). adds_all ys (draft_of c.args.self.now)) c.body-x-items.ensures;
+      count = omega arith;
+    }

@@ -1,13 +1,15 @@
-use Rattle.std.proofs.Common.{◌≡◌, ◌+◌, ◌<◌, reverse, take}
+use Rattle.std.proofs.Common.{◌≡◌, ◌+◌, ◌<◌, reverse, length, take}
 use Rattle.transaction.specs.Frames.{frames_of}
 use Rattle.lines.specs.Build.{guarded}
 use Rattle.lines.proofs.builder.Builder.guard.Given as goal
 
-abbrev pub invariant-loop-j : goal.invariant-loop-j
-invariant-loop-j l =
-    (guarded (reverse (take l.j l.initial.self.nest.frames)) l.old (take l.self.count l.self.lines) ≡ guarded (frames_of l.initial.self.nest) l.old (take l.initial.self.count l.initial.self.lines))
-    × (l.self.count + l.j ≡ l.initial.self.count + l.initial.self.nest.depth)
-    × (l.self.fields ≡ l.initial.self.fields)
-    × (l.self.states ≡ l.initial.self.states)
-    × (l.self.nest ≡ l.initial.self.nest)
-    × (0 < l.self.count)
+abbrev pub invariant-loop-frame : goal.invariant-loop-frame
+invariant-loop-frame l =
+    record {
+      lines : guarded (reverse l.frame-iterator.iter.rest.now) l.fn.old (take l.self.count l.self.lines) ≡ guarded (frames_of l.initial.self.nest) l.fn.old (take l.initial.self.count l.initial.self.lines);
+      count : l.self.count + length l.frame-iterator.iter.rest.now ≡ l.initial.self.count + l.initial.self.nest.depth;
+      fields : l.self.fields ≡ l.initial.self.fields;
+      states : l.self.states ≡ l.initial.self.states;
+      nest : l.self.nest ≡ l.initial.self.nest;
+      some : 0 < l.self.count;
+    }

@@ -7,7 +7,7 @@ use Rattle.lines.specs.Named.{states_from}
 use Rattle.lines.specs.Build.{firsts}
 use Rattle.lines.proofs.States.{listed, unlisted, all_listed, first_named, first_unnamed, all_first}
 use Rattle.lines.proofs.builder.Builder.read_states.Goals as goal
-use Rattle.lines.proofs.builder.Builder.read_states.Goals.{then-named-s, else-named-s}
+use Rattle.lines.proofs.builder.Builder.read_states.Goals.{then-is_named, else-is_named}
 
 pub loop-s-preserved : goal.loop-s-preserved
 loop-s-preserved c =
@@ -15,22 +15,22 @@ loop-s-preserved c =
     let N = c.args.named.now in
     let s = c.loop-s.s in
     let b = c.loop-s.self in
-    elim c.if-named-s.branch [
-      | then-named-s w ↦
-          (let p = w.read_state-first.ensures.pushed in
+    elim c.if-is_named.branch [
+      | then-is_named w ↦
+          (let p = w.read_state.ensures.pushed in
           let more = ap (λ (x : Builder). x.count) w.self-is ∙ p.count in
           let same = ap (λ (x : Builder). x.states) w.self-is ∙ p.states in
-          let table = c.put.ensures ∙ ap₂ (λ (l : List Source) (x : Source). set l s x) same (w.first-is ∙ w.read_state-first.ensures.value) in (
-            ap (λ (l : List Line). l ++ map Read (states_from (s + 1) (drop (s + 1) N))) (ap (λ (x : Builder). take x.count x.lines) w.self-is ∙ p.lines) ∙ listed N s (omega arith) Read _ w.if-named-s.true ∙ v.0,
-            ap₂ (λ (l : List Source) (n : ℕ). take (s + 1) l ++ firsts n (drop (s + 1) N)) table more ∙ first_named N s (omega arith) b.count b.states (omega arith) w.if-named-s.true ∙ v.1,
+          let table = ap₂ (λ (l : List Source) (x : Source). set l s x) same (w.self2-is ∙ w.read_state.ensures.value) in (
+            ap (λ (l : List Line). l ++ map Read (states_from (s + 1) (drop (s + 1) N))) (ap (λ (x : Builder). take x.count x.lines) w.self-is ∙ p.lines) ∙ listed N s (omega arith) Read _ w.if-is_named.true ∙ v.0,
+            ap₂ (λ (l : List Source) (n : ℕ). take (s + 1) l ++ firsts n (drop (s + 1) N)) table more ∙ first_named N s (omega arith) b.count b.states (omega arith) w.if-is_named.true ∙ v.1,
             ap (λ (x : Builder). x.fields) w.self-is ∙ p.fields ∙ v.2,
             ap (λ (x : Builder). x.nest) w.self-is ∙ p.nest ∙ v.3,
             omega (arith, more),
           ))
-      | else-named-s w ↦
-          (let table = c.put.ensures ∙ ap₂ (λ (x : Builder) (y : Source). set x.states s y) w.self-is w.first-is in (
-            ap (λ (x : Builder). take x.count x.lines ++ map Read (states_from (s + 1) (drop (s + 1) N))) w.self-is ∙ unlisted N s (omega arith) Read _ w.if-named-s.false ∙ v.0,
-            ap₂ (λ (l : List Source) (x : Builder). take (s + 1) l ++ firsts x.count (drop (s + 1) N)) table w.self-is ∙ first_unnamed N s (omega arith) b.count b.states (omega arith) w.if-named-s.false ∙ v.1,
+      | else-is_named w ↦
+          (let table = ap₂ (λ (x : Builder) (y : Source). set x.states s y) w.self-is w.self2-is in (
+            ap (λ (x : Builder). take x.count x.lines ++ map Read (states_from (s + 1) (drop (s + 1) N))) w.self-is ∙ unlisted N s (omega arith) Read _ w.if-is_named.false ∙ v.0,
+            ap₂ (λ (l : List Source) (x : Builder). take (s + 1) l ++ firsts x.count (drop (s + 1) N)) table w.self-is ∙ first_unnamed N s (omega arith) b.count b.states (omega arith) w.if-is_named.false ∙ v.1,
             ap (λ (x : Builder). x.fields) w.self-is ∙ v.2,
             ap (λ (x : Builder). x.nest) w.self-is ∙ v.3,
             omega (arith, ap (λ (x : Builder). x.count) w.self-is),

@@ -6,7 +6,7 @@ use Rattle.lines.specs.Named.{states_from}
 use Rattle.lines.specs.Build.{write_line}
 use Rattle.lines.proofs.States.{listed, unlisted, all_listed}
 use Rattle.lines.proofs.builder.Builder.write_states.Goals as goal
-use Rattle.lines.proofs.builder.Builder.write_states.Goals.{then-named-s, else-named-s}
+use Rattle.lines.proofs.builder.Builder.write_states.Goals.{then-is_named, else-is_named}
 
 pub loop-s-preserved : goal.loop-s-preserved
 loop-s-preserved c =
@@ -15,17 +15,17 @@ loop-s-preserved c =
     let s = c.loop-s.s in
     let us = c.args.self.now.states in
     let b = c.loop-s.self in
-    elim c.if-named-s.branch [
-      | then-named-s w ↦
+    elim c.if-is_named.branch [
+      | then-is_named w ↦
           (let p = w.write_state.ensures in
           let new = ap (λ (x : Builder). take x.count x.lines) w.self-is ∙ p.lines ∙ ap (λ (l : List Source). take b.count b.lines ++ (write_line l s ∷ [])) v.3 in (
-            ap (λ (l : List Line). l ++ map (write_line us) (states_from (s + 1) (drop (s + 1) N))) new ∙ listed N s (omega arith) (write_line us) _ w.if-named-s.true ∙ v.0,
+            ap (λ (l : List Line). l ++ map (write_line us) (states_from (s + 1) (drop (s + 1) N))) new ∙ listed N s (omega arith) (write_line us) _ w.if-is_named.true ∙ v.0,
             omega (arith, ap (λ (x : Builder). x.count) w.self-is, p.count),
             ap (λ (x : Builder). x.fields) w.self-is ∙ p.fields ∙ v.2,
             ap (λ (x : Builder). x.states) w.self-is ∙ p.states ∙ v.3,
           ))
-      | else-named-s w ↦ (
-        ap (λ (x : Builder). take x.count x.lines ++ map (write_line us) (states_from (s + 1) (drop (s + 1) N))) w.self-is ∙ unlisted N s (omega arith) (write_line us) _ w.if-named-s.false ∙ v.0,
+      | else-is_named w ↦ (
+        ap (λ (x : Builder). take x.count x.lines ++ map (write_line us) (states_from (s + 1) (drop (s + 1) N))) w.self-is ∙ unlisted N s (omega arith) (write_line us) _ w.if-is_named.false ∙ v.0,
         omega (arith, ap (λ (x : Builder). x.count) w.self-is),
         ap (λ (x : Builder). x.fields) w.self-is ∙ v.2,
         ap (λ (x : Builder). x.states) w.self-is ∙ v.3,

@@ -5,6 +5,8 @@ use Rattle.lines.proofs.lines.Lines.work_out.Given as goal
 
 abbrev pub invariant-loop-n : goal.invariant-loop-n
 invariant-loop-n g l =
-    (length l.made ≡ 208)
-    × (take l.n l.made ≡ worked g.M.Arithmetic.plus g.M.Arithmetic.minus (values l.fields l.words) (take l.n l.self.lines))
-    × ((k : ℕ) → l.n ≤ k → get_or l.made k 0 ≡ 0)
+    record {
+      long : length l.made ≡ 208;
+      worked : take l.n l.made ≡ worked g.M.Arithmetic.plus g.M.Arithmetic.minus (values l.fields l.words) (take l.n l.line-items);
+      past : (k : ℕ) → l.n ≤ k → get_or l.made k 0 ≡ 0;
+    }

@@ -10,8 +10,7 @@ returns-in-Some g c =
     let y = c.pass.new.self in
     record {
       moved =
-          moved_some (pipeline_of g.A.Arith.Arithmetic.plus g.A.Arith.Arithmetic.minus g.A.Atom.ran m.plan) c.args.stood.now c.args.q (c.args.q + 1) c.in-Some.number (contents m) _ (contents y) (sym c.at-packet.ensures ∙ c.in-Some.is) (omega (arith, c.requires, m.rows_long)) (omega (arith, c.requires, m.counts_long))
-          (c.put.ensures ∙ ap {B = List (Option ℕ)} (set m.places (c.args.q + 1)) c.at-packet.ensures) refl refl refl (y.words_long ∙ sym m.words_long) c.pass.ensures.passed;
-      plan = c.pass.ensures.plan;
-      atom = c.pass.ensures.atom;
+          moved_some (pipeline_of g.A.Arith.Arithmetic.plus g.A.Arith.Arithmetic.minus g.A.Atom.ran m.plan) c.args.stood.now c.args.q (c.args.q + 1) c.in-Some.number (contents m) _ (contents y) (sym c.at-packet.ensures ∙ c.in-Some.is) (omega (arith, c.requires, m.held.rows_long)) (omega (arith, c.requires, m.held.counts_long))
+          (c.put.ensures ∙ ap {B = List (Option ℕ)} (set m.held.places (c.args.q + 1)) c.at-packet.ensures) refl refl refl (y.held.words_long ∙ sym m.held.words_long) c.pass.ensures.passed;
+      same = record { plan = c.pass.ensures.same.plan; atom = c.pass.ensures.same.atom };
     }

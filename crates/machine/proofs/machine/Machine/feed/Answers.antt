@@ -23,9 +23,9 @@ returns g c =
     did g.A.Arith.Arithmetic.plus g.A.Arith.Arithmetic.minus g.A.Atom.ran (Feed c.args.fields.now) (good done) m _ (λ i. (c.type_inv.fields i).fits)
     c.in_ok-number.ensures.answer
     (record {
-      places = c.put.ensures ∙ ap {B = List (Option ℕ)} (λ (i : ℕ). set m.places 0 (Some i)) number;
-      carried = c.put-2.ensures ∙ ap {B = List Row} (λ (r : Row). set m.rows 0 r) c.entered-row.ensures;
-      counts = c.put-3.ensures ∙ ap {B = List ℕ} (λ (i : ℕ). set m.counts 0 i) number;
+      places = c.put.ensures ∙ ap {B = List (Option ℕ)} (λ (i : ℕ). set m.held.places 0 (Some i)) number;
+      carried = c.put-2.ensures ∙ ap {B = List Row} (λ (r : Row). set m.held.rows 0 r) c.entered-row.ensures;
+      counts = c.put-3.ensures ∙ ap {B = List ℕ} (λ (i : ℕ). set m.held.counts 0 i) number;
       words = refl;
     })
     tt refl refl

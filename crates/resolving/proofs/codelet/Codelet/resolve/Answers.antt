@@ -1,5 +1,4 @@
-use Rattle.std.proofs.Common.{◌≡◌, ◌-◌, ◌<◌, List, [], ◌∷◌, ◌++◌, length, take, sym, refl, ap, ◌∙◌, subst, add-one, arith, length-set}
-use native.Mathlib.Nat.{sub-zero}
+use Rattle.std.proofs.Common.{◌≡◌, ◌<◌, List, [], ◌∷◌, ◌++◌, length, take, sym, refl, ap, ◌∙◌, subst, add-one, arith, length-set}
 use Rattle.std.proofs.lemmas.List.{take_more_set, take_all}
 use Rattle.lines.specs.declared.line.Source.{Source}
 use Rattle.resolving.specs.Resolving.{found, resolved_line, table, Resolves, KeepsValues}
@@ -21,8 +20,7 @@ loop-n-preserved c =
     let all = c.loop-n.sources in
     let one = c.resolve_line-source.result in
     let below : n < length all = omega arith in
-    let front : take (n - 0) all ≡ table cod d n = ap (λ k. take k all) (sub-zero n) ∙ c.loop-n.invariant.1 in
-    let made : one ≡ resolved_line cod d (table cod d n) n = c.resolve_line-source.ensures ∙ ap (λ t. resolved_line cod d t n) front in
+    let made : one ≡ resolved_line cod d (table cod d n) n = c.resolve_line-source.ensures ∙ ap (λ t. resolved_line cod d t n) c.loop-n.invariant.1 in
     let pushed : take n all ++ (one ∷ []) ≡ table cod d n ++ (resolved_line cod d (table cod d n) n ∷ []) =
     ap (λ t. t ++ (one ∷ [])) c.loop-n.invariant.1 ∙ ap (λ x. table cod d n ++ (x ∷ [])) made in
     (length-set all n one ∙ c.loop-n.invariant.0, take_more_set all n one below ∙ pushed ∙ sym (ap (table cod d) (add-one n)))
@@ -35,9 +33,10 @@ returns c =
     let all = c.loop-n.sources in
     let end : n ≡ 208 = omega arith in
     let is : all ≡ table cod d 208 = sym (take_all n all (omega arith)) ∙ c.loop-n.invariant.1 ∙ ap (table cod d) end in
+    let rules : Resolves cod d (found all) = subst (λ (t : List Source). Resolves cod d (found t)) (sym is) (resolves cod d) in
     record {
       table = is;
-      rules = subst (λ (t : List Source). Resolves cod d (found t)) (sym is) (resolves cod d);
-      only = λ f rf a b. alike cod d f (found all) rf (subst (λ (t : List Source). Resolves cod d (found t)) (sym is) (resolves cod d)) a b;
+      rules = rules;
+      only = λ f rf a b. alike cod d f (found all) rf rules a b;
       keeps = subst (λ (t : List Source). KeepsValues cod d (found t)) (sym is) (keeps_values cod d);
     }

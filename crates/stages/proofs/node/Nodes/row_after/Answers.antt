@@ -1,14 +1,15 @@
-use Rattle.std.proofs.Common.{sym}
-use Rattle.stages.proofs.NextRow.{next_start, next_yes, next_no}
+use Rattle.std.proofs.Common.{sym, ◌∙◌, arith, rules, tests}
+use Rattle.std.proofs.lemmas.Iterator.{YieldsList-from_range, YieldsList-from_map}
+use Rattle.std.proofs.lemmas.Iterator.Adapters.{option_map_id}
+use Rattle.std.proofs.lemmas.Iterator.Consumers.{min_from_yields_List, YieldsList-at, YieldsList-from_filter}
+use Rattle.stages.specs.Filling.{row_of}
+use Rattle.stages.specs.Rows.{comes_after}
+use Rattle.stages.proofs.NextRow.{next_kept}
 use Rattle.stages.proofs.node.Nodes.row_after.Goals as goal
-use Rattle.stages.proofs.node.Nodes.row_after.Goals.{then-comes_after, else-comes_after}
 
-pub loop-n-init : goal.loop-n-init
-loop-n-init c = sym (next_start c.args.self.now c.args.prior)
-
-pub loop-n-preserved : goal.loop-n-preserved
-loop-n-preserved c =
-    elim c.if-comes_after.branch [
-      | then-comes_after w ↦ next_yes c.args.self.now c.args.prior _ _ _ _ _ c.loop-n.invariant w.row.ensures w.lower.ensures w.next-is (sym w.if-comes_after.ensures)
-      | else-comes_after w ↦ next_no c.args.self.now c.args.prior _ _ _ c.loop-n.invariant w.next-is (sym w.if-comes_after.ensures)
-    ]
+pub returns : goal.returns
+returns c =
+    let x = c.args.self.now in
+    sym (option_map_id c.min.result)
+    ∙ (min_from_yields_List c.map.result _ c.min.ensures.ran (YieldsList-from_map _ (row_of x) (YieldsList-at c.map.ensures.source (YieldsList-from_filter _ (comes_after x c.args.prior) (YieldsList-from_range 0 208 208 c.filter.ensures.source (omega arith)) c.filter.ensures.closure (λ n b q k. search (rules, tests)))) c.map.ensures.closure (λ n r q k. search rules))
+    ∙ next_kept x c.args.prior 208)

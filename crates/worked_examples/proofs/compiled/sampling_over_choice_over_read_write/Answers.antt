@@ -1,0 +1,6 @@
+use Rattle.worked_examples.proofs.Judging.{sampling_over_read_write}
+use Rattle.worked_examples.proofs.Told.{told_bad}
+use Rattle.worked_examples.proofs.compiled.sampling_over_choice_over_read_write.Goals as goal
+
+pub returns-clause-told : goal.returns-clause-told
+returns-clause-told c = told_bad _ _ (sampling_over_read_write _ c.stages.ensures)
