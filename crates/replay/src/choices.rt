@@ -1,5 +1,7 @@
 // What the arguments choose.
-use std::{env, io};
+ghost use Rattle.std.specs.Prelude.{◌≡◌, None, false, unwrap_or};
+ghost use Rattle.replay.specs.declared.choices.Sums.TheVariants.{Wrap};
+ghost use Rattle.replay.specs.declared.choices.Base.TheVariants.{Subtract};
 
 #[derive(Clone, Copy)]
 pub enum Sums {
@@ -25,17 +27,12 @@ pub struct Choices {
 }
 
 impl Choices {
-    // An arithmetic, a number of choices and what they lie over.
-    pub fn read(rt: &HostRuntime) -> io::Result<Choices> {
-        let mut choices = Choices::unnamed();
-        for word in env::args(rt)?.skip(1) {
-            choices.read_word(word.as_str());
-        }
-        Ok(choices)
-    }
+    ghost use Rattle.replay.specs.Chosen.{Follows, over};
 
     // What no word chooses.
-    pub fn unnamed() -> Choices {
+    pub fn unnamed() -> Choices
+        ensures { result ≡ record { sums = Wrap; base = Subtract; layers = None; trace = false } }
+    {
         Choices {
             sums: Sums::Wrap,
             base: Base::Subtract,
@@ -45,12 +42,16 @@ impl Choices {
     }
 
     // How many choices lie over the base: two where no atom is named.
-    pub fn layers(&self) -> u8 {
+    pub fn layers(&self) -> u8
+        ensures { result ≡ unwrap_or self.now.layers 2 }
+    {
         self.layers.unwrap_or(2)
     }
 
     // Follows a word, and no other than these.
-    pub fn read_word(&mut self, word: &str) {
+    pub fn read_word(&mut self, word: &str)
+        ensures { Follows word.now self.old self.new }
+    {
         match word {
             "wrap" => self.sums = Sums::Wrap,
             "clamp" => self.sums = Sums::Clamp,
@@ -63,13 +64,17 @@ impl Choices {
         }
     }
 
-    fn lie_over(&mut self, base: Base) {
+    fn lie_over(&mut self, base: Base)
+        ensures { self.new ≡ over base self.old }
+    {
         self.base = base;
         self.layers = Some(self.named_layers());
     }
 
     // How many choices the words before name.
-    fn named_layers(&self) -> u8 {
+    fn named_layers(&self) -> u8
+        ensures { result ≡ unwrap_or self.now.layers 0 }
+    {
         self.layers.unwrap_or(0)
     }
 }

@@ -15,10 +15,20 @@ mod tests;
 use answering::answer_all;
 use choices::Choices;
 use playing::Script;
+use std::{env, io};
+
+// What the arguments choose.
+fn chosen(rt: &HostRuntime) -> io::Result<Choices> {
+    let mut choices = Choices::unnamed();
+    for word in env::args(rt)?.skip(1) {
+        choices.read_word(word.as_str());
+    }
+    Ok(choices)
+}
 
 fn main(rt: HostRuntime) -> anyhow::Result<()> {
     let heap = rt.alloc();
-    let choices = Choices::read(&rt)?;
+    let choices = chosen(&rt)?;
     answer_all(&rt, rt.stdin(), |input, out| {
         let script = Script {
             heap,

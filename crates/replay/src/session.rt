@@ -1,4 +1,13 @@
 // Calls on one machine, answered line by line.
+ghost use Rattle.std.specs.Prelude.{◌≡◌, ◌≢◌, ℕ, take};
+ghost use Rattle.text.specs.Bytes.{First};
+ghost use Rattle.replay.specs.Named.{call_name};
+ghost use Rattle.transaction.specs.Programs.{program_of};
+ghost use Rattle.book.specs.Agrees.{Fresh};
+ghost use Rattle.plans.specs.Idle.{idle_program};
+ghost use Rattle.plans.specs.Pipeline.{pipeline_of};
+ghost use Rattle.machine.specs.Held.{contents};
+
 use crate::call::Call;
 use answering::{Spaced, answer_fault};
 use atoms::Atom;
@@ -25,7 +34,12 @@ pub struct Session<A> {
 
 impl<A: Atom + Drop> Session<A> {
     // The machine was never started.
-    pub fn new(heap: Global, atom: A, trace: bool) -> Session<A> {
+    pub fn new(heap: Global, atom: A, trace: bool) -> Session<A>
+        ensures fresh { Fresh (pipeline_of A.Arith.Arithmetic.plus A.Arith.Arithmetic.minus A.Atom.ran result.machine.plan) (contents result.machine) }
+        ensures program { program_of result.machine.plan.transaction ≡ idle_program }
+        ensures atom { result.machine.atom ≡ atom }
+        ensures trace { result.trace ≡ trace }
+    {
         Session {
             heap,
             machine: Machine::new(atom),
@@ -35,8 +49,10 @@ impl<A: Atom + Drop> Session<A> {
         }
     }
 
-    // Answers one line.
-    pub fn answer<W: Write>(&mut self, line: &[u8], out: &mut W) -> anyhow::Result<()> {
+    // Answers one line. One whose first word names no call changes nothing in the machine.
+    pub fn answer<W: Write>(&mut self, line: &[u8], out: &mut W) -> anyhow::Result<()>
+        ensures { (end : ℕ) × First 32 line.now 0 end × (((call : Call) → take end line.now ≢ call_name call) → self.new.machine ≡ self.old.machine) }
+    {
         let (name, rest) = line.split_at(word_end(line));
         let call = Call::named(name);
         if let Err(fault) = self.decode(call, rest) {
@@ -54,7 +70,9 @@ impl<A: Atom + Drop> Session<A> {
     }
 
     // Decodes what stands behind the name of a call: numbers, and for a start an image before them.
-    fn decode(&mut self, call: Option<Call>, rest: &[u8]) -> Result<(), TextFault> {
+    fn decode(&mut self, call: Option<Call>, rest: &[u8]) -> Result<(), TextFault>
+        ensures { self.new.machine ≡ self.old.machine }
+    {
         match (call, rest) {
             (Some(Call::Start), [_blank, request @ ..]) => {
                 decode_request(request, &mut self.image, &mut self.numbers).map_err(
