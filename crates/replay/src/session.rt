@@ -1,5 +1,12 @@
 // Calls on one machine, answered line by line.
-ghost use Rattle.std.specs.Prelude.{◌≡◌, ◌≢◌, ℕ, take};
+ghost use Rattle.std.specs.Prelude.{◌≡◌, ◌≢◌, ℕ, take, false, OnOk, Result, [], ◌∷◌};
+ghost use Rattle.std.specs.Io.KnownBytes.{Appends};
+ghost use Rattle.machine.specs.declared.fault.MachineFault.{MachineFault};
+ghost use Rattle.machine.specs.Faults.{answered};
+ghost use Rattle.machine.specs.Did.{Did};
+ghost use Rattle.book.specs.Calls.Call.{Feed, Tick, Peek};
+ghost use Rattle.book.specs.Calls.Outcome.{done, word};
+ghost use Rattle.replay.specs.Answered.{done_line, word_line};
 ghost use Rattle.text.specs.Bytes.{First};
 ghost use Rattle.replay.specs.Named.{call_name};
 ghost use Rattle.transaction.specs.Programs.{program_of};
@@ -93,14 +100,21 @@ impl<A: Atom + Drop> Session<A> {
         }
     }
 
-    fn feed<W: Write>(&mut self, out: &mut W) -> io::Result<()> {
+    // Feeds the numbers of the line, and tells the machine's answer.
+    fn feed<W: Write>(&mut self, out: &mut W) -> io::Result<()>
+        ensures { (r : Result (Unit {0}) MachineFault) × Did A.Arith.Arithmetic.plus A.Arith.Arithmetic.minus A.Atom.ran (Feed self.old.numbers.items) (answered (λ _. done) r) self.old.machine self.new.machine × OnOk result (Appends (W.contents out.old) (W.contents out.new) (done_line r)) }
+    {
         match self.machine.feed(&self.numbers) {
             Ok(()) => writeln!(out, "ok"),
             Err(fault) => writeln!(out, "{}", Refusal::from(fault)),
         }
     }
 
-    fn tick<W: Write>(&mut self, out: &mut W) -> io::Result<()> {
+    // Ticks, where the line has no number, and tells the machine's answer.
+    fn tick<W: Write>(&mut self, out: &mut W) -> io::Result<()>
+        ensures numbered { self.old.numbers.items ≢ [] → self.new.machine ≡ self.old.machine }
+        ensures told { self.old.numbers.items ≡ [] → (r : Result (Unit {0}) MachineFault) × Did A.Arith.Arithmetic.plus A.Arith.Arithmetic.minus A.Atom.ran Tick (answered (λ _. done) r) self.old.machine self.new.machine × (self.old.trace ≡ false → OnOk result (Appends (W.contents out.old) (W.contents out.new) (done_line r))) }
+    {
         if !self.numbers.is_empty() {
             return writeln!(out, "malformed: a tick takes no number");
         }
@@ -147,7 +161,11 @@ impl<A: Atom + Drop> Session<A> {
         Ok(())
     }
 
-    fn peek<W: Write>(&mut self, out: &mut W) -> io::Result<()> {
+    // Peeks at the state of the line, and tells the machine's answer.
+    fn peek<W: Write>(&mut self, out: &mut W) -> io::Result<()>
+        ensures same { self.new.machine ≡ self.old.machine }
+        ensures told { (s : ℕ) → self.old.numbers.items ≡ s ∷ [] → (r : Result (ℕ × ℕ) MachineFault) × Did A.Arith.Arithmetic.plus A.Arith.Arithmetic.minus A.Atom.ran (Peek s) (answered (λ p. word p.0 p.1) r) self.old.machine self.old.machine × OnOk result (Appends (W.contents out.old) (W.contents out.new) (word_line r)) }
+    {
         let [s] = self.numbers.as_slice() else {
             return writeln!(out, "malformed: a peek takes one number");
         };
