@@ -1,6 +1,8 @@
 // What the programs compile over that say no atoms: two choices on an atom that adds and subtracts, with sums that wrap.
 #![tactic(auto)]
 
+mod stage_count;
+
 ghost use Rattle.std.specs.Prelude.{◌≡◌};
 ghost use Rattle.choice.specs.Choice.{choice_length, choice_takes, choice_ran};
 ghost use Rattle.atoms.specs.Kinds.{subtract_takes, subtract_ran};
@@ -12,6 +14,7 @@ use atoms::{Atom, Subtract};
 use choice::Choice;
 use compiler::{CompileFault, compile};
 use plans::Plan;
+pub use stage_count::stages_within;
 use word::Wrap;
 
 // How many numbers the setting of an atom has.

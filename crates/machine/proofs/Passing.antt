@@ -1,5 +1,5 @@
 -- A tick under way: what stood at place q and above has moved on, and what stood below has not. Assumes nothing.
-use Rattle.std.proofs.Common.{◌≡◌, ℕ, suc, ◌<◌, ◌≤◌, Bool, cond, eqb, ◌⊎◌, List, length, get_or, set, is_some, Some, None, Option, unwrap_or, sym, refl, ap, ◌∙◌, subst, ap₂, inl, inr, arith, length-set, get_or-set_other, get_or-set_same}
+use Rattle.std.proofs.Common.{◌≡◌, ℕ, suc, ◌<◌, ◌≤◌, Bool, cond, eqb, ◌⊎◌, List, length, get_or, set, is_some, Some, None, Option, unwrap_or, sym, ap, ◌∙◌, subst, ap₂, inl, inr, arith, length-set, get_or-set_other, get_or-set_same}
 use Rattle.std.proofs.lemmas.Bool.{cases_eq, cases_lt, eq-eqb, ne_eqb}
 use Rattle.book.specs.Pipeline.{Pipeline, Contents, packet_at, values_at, count_at, word_of, SameSizes, Ticked}
 use Rattle.machine.specs.Moved.{Passed, Moved}

@@ -40,4 +40,14 @@ impl Held {
             words: [0; 8],
         }
     }
+
+    // Empties the places, counts no packet and zeroes the words; the rows that packets left behind stay.
+    pub(crate) fn clear(&mut self)
+        ensures fresh { (plus minus : ℕ → ℕ → ℕ) (ran : List ℕ → ℕ → Row → ℕ) (plan : Plan) → Fresh (pipeline_of plus minus ran plan) (held_contents self.new) }
+        ensures rows { self.new.rows ≡ self.old.rows }
+    {
+        self.places = [None; 33];
+        self.counts = [0; 33];
+        self.words = [0; 8];
+    }
 }

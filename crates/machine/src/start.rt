@@ -52,17 +52,19 @@ impl<A: Atom> Machine<A> {
         ensures fresh { Fresh (pipeline_of A.Arith.Arithmetic.plus A.Arith.Arithmetic.minus A.Atom.ran plan) (contents self.new) }
         ensures plan { self.new.plan ≡ plan }
         ensures atom { self.new.atom ≡ self.old.atom }
+        ensures rows { self.new.held.rows ≡ self.old.held.rows }
     {
         self.schedule = Schedule::of(&plan.placement.stages);
         self.plan = plan;
-        self.held = Held::empty();
+        self.held.clear();
     }
 
-    // Compiles an image and starts on its plan; a machine that was refused goes on as it was. The limits come unchecked, as
-    // `compile` takes them.
+    // Compiles an image and starts on its plan; a machine that was refused goes on as it was. The rows that packets left
+    // behind are not cleared. The limits come unchecked, as `compile` takes them.
     pub fn start(&mut self, image: &[u8], d: u32, p: u32, q: u32) -> Result<(), StartFault>
         ensures verdict { Verdict A.Atom.len A.Atom.takes image.now d p q (begun result self.new) }
         ensures started { Started A.Arith.Arithmetic.plus A.Arith.Arithmetic.minus A.Atom.ran image.now d p q result self.old self.new }
+        ensures rows { self.new.held.rows ≡ self.old.held.rows }
     {
         let plan = compile(&self.atom, image, d, p, q)?;
         self.load(plan);

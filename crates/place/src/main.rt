@@ -18,7 +18,7 @@ use transaction::{Refusal, Transaction};
 fn write_placement(out: &mut Out, p: &Placement) -> io::Result<()> {
     write!(out, "{} stages :", p.stages.count)?;
     for stage in 1..=p.stages.count {
-        for node in p.listed(stage).iter().flatten() {
+        for node in (0..416).filter_map(|k| p.listed_at(stage, k)) {
             write!(out, " {node} @{stage}")?;
         }
     }

@@ -36,8 +36,9 @@ impl Placement {
         array::from_fn(|k| self.listed_at(stage, k))
     }
 
-    // What stands at one place of that list.
-    fn listed_at(&self, stage: usize, k: usize) -> Option<Listed>
+    // What stands at one place of that list. Programs go over the places one by one, since a whole list for each stage takes
+    // longer than the rest of an answer.
+    pub fn listed_at(&self, stage: usize, k: usize) -> Option<Listed>
         ensures { result ≡ listed_at self.now stage k }
     {
         if k < 208 {

@@ -19,7 +19,8 @@ use word::at;
 
 fn write_stage<W: Write>(out: &mut W, p: &Placement, stage: usize) -> io::Result<()> {
     write!(out, "stage {stage}:")?;
-    for (i, node) in p.listed(stage).iter().flatten().enumerate() {
+    let nodes = (0..416).filter_map(|k| p.listed_at(stage, k));
+    for (i, node) in nodes.enumerate() {
         let mark = if i == 0 { "" } else { "," };
         write!(out, "{mark} {node}")?;
     }

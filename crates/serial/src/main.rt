@@ -92,23 +92,28 @@ impl Session {
         if let Err(fault) = decode_words(line, &mut self.fields) {
             return answer_fault(out, fault);
         }
-        match self.image {
-            Ok(t) => self.serve::<M, W>(&t, out)?,
+        match &self.image {
+            Ok(t) => serve::<M, W>(t, &mut self.fields, &mut self.words, out)?,
             Err(fault) => writeln!(out, "{fault}")?,
         }
         Ok(())
     }
+}
 
-    // Runs the transaction on the packet, and answers it.
-    fn serve<M: Arithmetic, W: Write>(&mut self, t: &Transaction, out: &mut W) -> io::Result<()> {
-        match run::<M>(t, &mut self.fields, &mut self.words) {
-            Ok(()) => {
-                let fields = Spaced(&self.fields);
-                let words = Spaced(&self.words);
-                writeln!(out, "fields{fields} words{words}")
-            }
-            Err(fault) => writeln!(out, "{}", Refusal::from(fault)),
+// Runs the transaction on a packet and the kept words, and answers the packet.
+fn serve<M: Arithmetic, W: Write>(
+    t: &Transaction,
+    fields: &mut [u32],
+    words: &mut [u32],
+    out: &mut W,
+) -> io::Result<()> {
+    match run::<M>(t, fields, words) {
+        Ok(()) => {
+            let fields = Spaced(fields);
+            let words = Spaced(words);
+            writeln!(out, "fields{fields} words{words}")
         }
+        Err(fault) => writeln!(out, "{}", Refusal::from(fault)),
     }
 }
 
@@ -154,8 +159,8 @@ fn wants_clamp(rt: &HostRuntime) -> io::Result<bool> {
 
 fn main(rt: HostRuntime) -> anyhow::Result<()> {
     let heap = rt.alloc();
-    let clamps = wants_clamp(&rt)?;
+    // the words are looked at once the input is read
     answer_all(&rt, rt.stdin(), |input, out| {
-        answer_chosen(clamps, heap, input, out)
+        answer_chosen(wants_clamp(&rt)?, heap, input, out)
     })
 }

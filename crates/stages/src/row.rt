@@ -52,7 +52,8 @@ impl Nodes {
     fn in_row(&self, slot: Slot, row: usize, n: usize) -> bool
         ensures { result ≡ in_row self.now slot row n }
     {
-        slot.takes(at(&self.sorts, n, None)) && self.row(n) == row
+        // the row first: most nodes stand in another
+        self.row(n) == row && slot.takes(at(&self.sorts, n, None))
     }
 
     // Whether the node at m takes such a slot in the row, and stands before n.

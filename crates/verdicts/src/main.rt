@@ -6,7 +6,7 @@
 #![tactic(auto)]
 
 use answering::{Out, answer_fault, answer_lines};
-use batch_compiler::compile_within;
+use batch_compiler::stages_within;
 use std::io;
 use std::io::Write;
 use text::decode_request;
@@ -16,8 +16,8 @@ fn answer_image(out: &mut Out, image: &[u8], limits: &[u32]) -> io::Result<()> {
     let [d, p, q] = limits else {
         return writeln!(out, "malformed: three limits are wanted");
     };
-    match compile_within(image, *d, *p, *q) {
-        Ok(plan) => writeln!(out, "accepted {}", plan.placement.stages.count),
+    match stages_within(image, *d, *p, *q) {
+        Ok(count) => writeln!(out, "accepted {count}"),
         Err(fault) => writeln!(out, "{}", Refusal::from(fault)),
     }
 }

@@ -15,4 +15,5 @@ returns g c =
         begins g.A.Arith.Arithmetic.plus g.A.Arith.Arithmetic.minus g.A.Atom.ran g.met.A.Arith.Arithmetic.sums g.met.A.Arith.Arithmetic.differences c.args.image.now c.args.d c.args.p c.args.q c.in_ok-plan.plan c.load.new.self same made.plan c.load.ensures.fresh,
         c.load.ensures.atom,
       );
+      rows = c.load.ensures.rows;
     }
