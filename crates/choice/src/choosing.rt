@@ -51,6 +51,7 @@ impl<A: Atom> Atom for Choice<A> {
         self.0.length().saturating_mul(2).saturating_add(5)
     }
 
+    #[tactic(auto, using(crate::proofs::Arms::choice_takes_lem))]
     fn class(&self, update: &Update) -> bool {
         self.0.class(update) || self.taken_fork(update).is_some()
     }

@@ -36,8 +36,8 @@ impl Placement {
         array::from_fn(|k| self.listed_at(stage, k))
     }
 
-    // What stands at one place of that list. Programs go over the places one by one, since a whole list for each stage takes
-    // longer than the rest of an answer.
+    // What stands at one place of that list. Programs go over the places one by one: a whole list for each stage made `place`
+    // take up to twice as long, and more where there are many stages.
     pub fn listed_at(&self, stage: usize, k: usize) -> Option<Listed>
         ensures { result ≡ listed_at self.now stage k }
     {

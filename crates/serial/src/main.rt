@@ -100,7 +100,8 @@ impl Session {
     }
 }
 
-// Runs the transaction on a packet and the kept words, and answers the packet.
+// Runs the transaction on a packet and the kept words, and answers the packet. No method of the session, since the transaction
+// is borrowed from it beside them.
 fn serve<M: Arithmetic, W: Write>(
     t: &Transaction,
     fields: &mut [u32],
@@ -159,7 +160,7 @@ fn wants_clamp(rt: &HostRuntime) -> io::Result<bool> {
 
 fn main(rt: HostRuntime) -> anyhow::Result<()> {
     let heap = rt.alloc();
-    // the words are looked at once the input is read
+    // the arguments are looked at once the input is read
     answer_all(&rt, rt.stdin(), |input, out| {
         answer_chosen(wants_clamp(&rt)?, heap, input, out)
     })
